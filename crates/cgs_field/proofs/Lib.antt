@@ -1,0 +1,3 @@
+pub mod ModularLemmas
+pub mod PrimeLemmas
+pub mod EuclidLemmas

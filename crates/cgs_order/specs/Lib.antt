@@ -1,0 +1,2 @@
+pub mod TermOrder
+pub mod Laws

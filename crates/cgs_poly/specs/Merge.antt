@@ -1,0 +1,44 @@
+-- One step of a merge of two sorted lists: what goes before, and what becomes of a term of the second list.
+use Rattle.std.specs.Prelude.{ℕ, ◌≡◌, ◌+◌, cond, Option, Some, None, List, [], ◌∷◌}
+use Rattle.std.specs.declared.cmp.Ordering.TheVariants.{Greater}
+use Rattle.std.specs.Ordering.{is_eq, nat_cmp}
+use Rattle.std.specs.Cmp.Lexicographic.{slice_cmp}
+use Rattle.cgs_order.specs.declared.block.BlockOrder.{BlockOrder}
+use Rattle.cgs_order.specs.TermOrder.{compared}
+use Rattle.cgs_poly.specs.declared.ring.Ring.{Ring}
+use Rattle.cgs_poly.specs.Polynomial.{Term, term, only, kept}
+
+-- each monomial is above m
+abbrev pub AreAbove : BlockOrder → List ℕ → List Term → Type 0
+AreAbove order m [] = Unit {0}
+AreAbove order m (x ∷ f) = (compared order x.exponents m ≡ Greater) × AreAbove order m f
+
+-- the first monomial is not above m
+abbrev pub StartsNotAbove : BlockOrder → List ℕ → List Term → Type 0
+StartsNotAbove order m [] = Unit {0}
+StartsNotAbove order m (x ∷ f) = compared order x.exponents m ≡ Greater → ⊥
+
+-- the coefficient of the first term, if its monomial is m
+abbrev pub first_at : List ℕ → List Term → Option ℕ
+first_at m [] = None
+first_at m (x ∷ f) = cond (is_eq (slice_cmp nat_cmp x.exponents m)) (Some x.coefficient) None
+
+-- how many terms at the front are at m: 1 or 0
+abbrev pub count_at : List ℕ → List Term → ℕ
+count_at m [] = 0
+count_at m (x ∷ f) = only x.exponents m
+
+-- c*m together with the first term of f, if that is at m
+abbrev pub joined : Ring → ℕ → List ℕ → List Term → List Term
+joined ring c m [] = term c m ∷ []
+joined ring c m (x ∷ f) = cond (is_eq (slice_cmp nat_cmp x.exponents m)) (kept ring (x.coefficient + c) m []) (term c m ∷ [])
+
+-- each term with its coefficient and its monomial changed
+abbrev pub changed : (ℕ → ℕ) → (List ℕ → List ℕ) → List Term → List Term
+changed a b [] = []
+changed a b (x ∷ f) = term (a x.coefficient) (b x.exponents) ∷ changed a b f
+
+-- each term is so
+abbrev pub EachTerm : (ℕ → List ℕ → Type 0) → List Term → Type 0
+EachTerm P [] = Unit {0}
+EachTerm P (x ∷ f) = P x.coefficient x.exponents × EachTerm P f

@@ -1,0 +1,24 @@
+//! Polynomials over a prime field, in variables and parameters, as canonical lists of terms.
+//!
+//! Below stand the field (`cgs_field`), monomials (`cgs_exps`) and term orders (`cgs_order`). Each call promises the exact
+//! list of terms of its answer, and beside it the law by coefficients. Read first: `canonical`, `IsPoly` and `coefficient`
+//! (specs/Polynomial).
+#![tactic(auto)]
+
+mod arithmetic;
+mod draft;
+mod fault;
+mod flat;
+mod laws;
+mod merge;
+mod multiple;
+mod poly;
+mod ring;
+
+pub use fault::PolyFault;
+pub use laws::{coefficients_decide, one_is_least, product_keeps_order};
+pub use poly::{Poly, PolyList, Term};
+pub use ring::Ring;
+
+#[cfg(test)]
+mod tests;

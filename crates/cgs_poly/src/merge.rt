@@ -1,0 +1,66 @@
+//! The sum of two polynomials, of which the second is multiplied on the way: one pass over both lists of terms.
+
+ghost use Rattle.std.specs.Prelude.{◌≡◌, ◌≤◌, ◌+◌, ◌-◌, ◌++◌, length, take, drop, IfOk};
+ghost use Rattle.cgs_poly.specs.Polynomial.{IsRing, IsOfRing, IsCanonical, canonical};
+ghost use Rattle.cgs_poly.specs.Draft.{HaveLength};
+ghost use Rattle.cgs_poly.specs.Merge.{AreAbove, StartsNotAbove, changed, EachTerm};
+
+use crate::draft::Draft;
+use crate::multiple::Multiple;
+use crate::poly::Poly;
+use crate::ring::Ring;
+use cgs_exps::MAX_PLACES;
+use cgs_order::{BlockOrder, compare};
+use std::alloc::{AllocError, Global};
+use std::cmp::Ordering;
+
+/// The sum of `f` and the multiple of `g`.
+pub(crate) fn merge<M: Multiple>(
+    alloc: Global,
+    ring: &Ring,
+    f: &Poly,
+    g: &Poly,
+    by: &M,
+) -> Result<Poly, AllocError>
+    requires ring { IsRing ring.now }
+    requires first { IsCanonical ring.now f.now }
+    requires terms { IsCanonical ring.now g.now }
+    requires can { EachTerm (M.can_multiply by.now ring.now.modulus) g.now }
+    requires second { IsCanonical ring.now (changed (M.coefficient by.now ring.now.modulus) (M.monomial by.now) g.now) }
+    ensures { IfOk result (λ h. h ≡ canonical ring.now (f.now ++ changed (M.coefficient by.now ring.now.modulus) (M.monomial by.now) g.now)) }
+{
+    let order = ring.order();
+    let mut sum = Draft::with_room_for(alloc, ring.places(), f, g)?;
+    let mut room = [0; MAX_PLACES];
+    let mut i = 0;
+    for j in 0..g.len() {
+        let term = g.term(j);
+        by.prepare(ring.modulus, term.coefficient, term.exponents, &mut room);
+        let c = by.times_coefficient(ring.modulus, term.coefficient, term.exponents);
+        let m = by.times_monomial(term.exponents, &room);
+        let end = end_above(&order, f, i, m);
+        sum.extend(f, i, end)?;
+        i = sum.push_joined(ring, f, end, c, m)?;
+    }
+    sum.extend(f, i, f.len())?;
+    Ok(sum.finish())
+}
+
+// The first place from `from` on whose monomial is not above m.
+fn end_above(order: &BlockOrder, f: &Poly, from: usize, m: &[u16]) -> usize
+    requires within { from ≤ length f.now }
+    requires lengths { HaveLength (order.now.head + order.now.tail) f.now }
+    requires places { length m.now ≡ order.now.head + order.now.tail }
+    ensures from { from ≤ result }
+    ensures within { result ≤ length f.now }
+    ensures above { AreAbove order.now m.now (take (result - from) (drop from f.now)) }
+    ensures stops { StartsNotAbove order.now m.now (drop result f.now) }
+{
+    for i in from..f.len() {
+        match compare(order, f.term(i).exponents, m) {
+            Ordering::Greater => {}
+            _ => return i,
+        }
+    }
+    f.len()
+}

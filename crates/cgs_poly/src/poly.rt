@@ -1,0 +1,121 @@
+//! A polynomial, kept in two flat vectors.
+
+ghost use Rattle.std.specs.Prelude.{◌≡◌, ◌<◌, ◌≤◌, ◌^◌, ◌↔◌, [], ◌∷◌, length, drop, slice_get, IsTrue, IfOk, IsErrOf};
+ghost use Rattle.cgs_exps.specs.Monomial.{degree};
+ghost use Rattle.cgs_poly.specs.Polynomial.{IsRing, IsPoly, places, term, canonical, greatest_degree};
+ghost use Rattle.cgs_poly.specs.Merge.{first_at};
+
+use crate::draft::Draft;
+use crate::fault::PolyFault;
+use crate::flat::part;
+use crate::ring::Ring;
+use cgs_exps::{MAX_DEGREE, degree as monomial_degree};
+use cgs_field::Elem;
+use cgs_list::ItemList;
+use std::alloc::Global;
+use std::marker::Model;
+
+/// A list of polynomials.
+pub type PolyList = ItemList<Poly>;
+
+/// A term of a polynomial: its coefficient, and the exponents of its monomial, the variables' before the parameters'.
+#[derive(Clone, Copy, Debug)]
+pub struct Term<'a> {
+    pub coefficient: Elem,
+    pub exponents: &'a [u16],
+}
+
+/// A polynomial, which contracts see as its list of terms, the greatest monomial first.
+#[derive(Debug, Drop)]
+pub struct Poly {
+    pub(crate) coefficients: Vec<Elem>,
+    pub(crate) exponents: Vec<u16>,
+    pub(crate) places: usize,
+}
+
+impl Model for Poly {
+    ghost use Rattle.std.specs.Prelude.{◌≡◌, ◌*◌, List, length};
+    ghost use Rattle.cgs_poly.specs.Polynomial.{Term};
+    ghost use Rattle.cgs_poly.specs.Flat.{terms_of};
+
+    ghost Value = { List Term };
+
+    ghost view = { λ f. terms_of f.places f.coefficients.items f.exponents.items };
+
+    ghost invariant = { λ f. length f.exponents.items ≡ length f.coefficients.items * f.places };
+}
+
+impl Poly {
+    /// The polynomial 0.
+    pub fn zero(alloc: Global) -> Poly
+        ensures { result ≡ [] }
+    {
+        Poly {
+            coefficients: Vec::new(alloc),
+            exponents: Vec::new(alloc),
+            places: 0,
+        }
+    }
+
+    /// The polynomial c times m; 0 where c is 0. It errs where the degree of m is above 32767, before memory is taken.
+    pub fn of_term(alloc: Global, ring: &Ring, c: Elem, m: &[u16]) -> Result<Poly, PolyFault>
+        requires ring { IsRing ring.now }
+        requires coefficient { c < ring.now.modulus }
+        requires places { length m.now ≡ places ring.now }
+        ensures ok { IfOk result (λ f. f ≡ canonical ring.now (term c m.now ∷ [])) }
+        ensures poly { IfOk result (λ f. IsPoly ring.now f) }
+        ensures degree { IsErrOf result PolyFault.Degree ↔ (greatest_degree < degree m.now) }
+    {
+        if monomial_degree(m) > MAX_DEGREE {
+            return Err(PolyFault::Degree);
+        }
+        if c.number() == 0 {
+            return Ok(Poly::zero(alloc));
+        }
+        let mut draft = Draft::with_room(alloc, m.len(), 1, m.len())?;
+        draft.push(c, m)?;
+        Ok(draft.finish())
+    }
+
+    /// The number of terms.
+    pub fn len(&self) -> usize
+        ensures { result ≡ length self.now }
+    {
+        self.coefficients.len()
+    }
+
+    /// The term at a place, counted from 0: the greatest monomial stands first.
+    pub fn term(&self, i: usize) -> Term<'_>
+        requires { i < length self.now }
+        ensures { slice_get self.now i ≡ Some (record { coefficient = result.coefficient; exponents = result.exponents.now }) }
+    {
+        Term {
+            coefficient: self.coefficients[i],
+            exponents: part(&self.exponents, self.places, i, i + 1),
+        }
+    }
+
+    /// Whether two polynomials are equal.
+    pub fn same(&self, other: &Poly) -> bool
+        ensures { IsTrue result ↔ (self.now ≡ other.now) }
+    {
+        self.coefficients == other.coefficients && self.exponents == other.exponents
+    }
+
+    // The coefficient of the term at a place, if there is one and it has this monomial.
+    pub(crate) fn coefficient_at(&self, at: usize, m: &[u16]) -> Option<Elem>
+        requires { at ≤ length self.now }
+        ensures coefficient { result ≡ first_at m.now (drop at self.now) }
+        ensures few { length self.now < 2 ^ 64 }
+    {
+        if at == self.len() {
+            return None;
+        }
+        let term = self.term(at);
+        if term.exponents == m {
+            Some(term.coefficient)
+        } else {
+            None
+        }
+    }
+}

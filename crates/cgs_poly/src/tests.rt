@@ -1,0 +1,93 @@
+//! Worked examples, and each call that takes memory met once with ample memory.
+
+ghost use Rattle.std.specs.Prelude.{◌≡◌, IfSome, IfOk};
+ghost use Rattle.cgs_poly.specs.Polynomial.{IsRing, IsPoly, places};
+
+use crate::{Poly, PolyFault, Ring};
+use cgs_field::Modulus;
+use cgs_order::Kind;
+use std::alloc::Global;
+use std::test::Fail;
+
+type Terms<'a> = &'a [(u16, [u16; 2])];
+
+// Modulo 7 in x and y, lexicographic.
+fn ring() -> Option<Ring>
+    ensures valid { IfSome result (λ ring. IsRing ring) }
+    ensures two { IfSome result (λ ring. places ring ≡ 2) }
+{
+    let modulus = Modulus::of(7)?;
+    Some(Ring {
+        modulus,
+        variables: 2,
+        parameters: 0,
+        kind: Kind::Lex,
+    })
+}
+
+fn poly(alloc: Global, ring: &Ring, terms: Terms<'_>) -> Result<Poly, PolyFault>
+    requires valid { IsRing ring.now }
+    requires two { places ring.now ≡ 2 }
+    ensures { IfOk result (λ f. IsPoly ring.now f) }
+{
+    let mut f = Poly::zero(alloc);
+    for (c, m) in terms {
+        let term = Poly::of_term(alloc, ring, ring.modulus.of_u64(*c as u64), m)?;
+        f = Poly::add(alloc, ring, &f, &term)?;
+    }
+    Ok(f)
+}
+
+fn has_terms(f: &Poly, terms: Terms<'_>) -> bool {
+    if f.len() != terms.len() {
+        return false;
+    }
+    for (i, (c, m)) in terms.iter().enumerate() {
+        let term = f.term(i);
+        if term.coefficient.number() != *c || term.exponents != m.as_slice() {
+            return false;
+        }
+    }
+    true
+}
+
+#[test]
+fn sums(rt: HostRuntime) -> Result<(), Fail> {
+    let ring = ring().ok_or("no ring")?;
+    // f, g, f + g
+    let rows: [(Terms<'_>, Terms<'_>, Terms<'_>); 3] = [
+        (
+            &[(1, [1, 0]), (1, [0, 0])],
+            &[(6, [1, 0]), (2, [0, 0])],
+            &[(3, [0, 0])],
+        ),
+        (
+            &[(3, [0, 0]), (1, [2, 0])],
+            &[(5, [0, 0]), (2, [0, 9]), (4, [1, 0])],
+            &[(1, [2, 0]), (4, [1, 0]), (2, [0, 9]), (1, [0, 0])],
+        ),
+        (&[(1, [32767, 0])], &[(6, [32767, 0])], &[]),
+    ];
+    for (first, second, want) in rows {
+        let f = poly(rt.alloc(), &ring, first)?;
+        let g = poly(rt.alloc(), &ring, second)?;
+        let sum = Poly::add(rt.alloc(), &ring, &f, &g)?;
+        assert!(rt; has_terms(&sum, want));
+        assert_eq!(rt; f.same(&sum), false);
+        assert!(rt; sum.same(&poly(rt.alloc(), &ring, want)?));
+    }
+    Ok(())
+}
+
+#[test]
+fn degrees(rt: HostRuntime) -> Result<(), Fail> {
+    let ring = ring().ok_or("no ring")?;
+    let one = ring.modulus.of_u64(1);
+    let most = Poly::of_term(rt.alloc(), &ring, one, &[32766, 1])?;
+    assert!(rt; has_terms(&most, &[(1, [32766, 1])]));
+    let refused = Poly::of_term(rt.alloc(), &ring, one, &[32767, 1]);
+    assert_eq!(rt; refused.map(|_| ()), Err(PolyFault::Degree));
+    let nothing = Poly::of_term(rt.alloc(), &ring, ring.modulus.of_u64(7), &[1, 1])?;
+    assert_eq!(rt; nothing.len(), 0);
+    Ok(())
+}

@@ -1,0 +1,122 @@
+//! The text that is due, and the status with which it is written.
+
+ghost use Rattle.std.specs.Prelude.{◌≡◌, ◌≤◌, length};
+ghost use Rattle.cgs_text.specs.Problems.{IsProblem};
+ghost use Rattle.cgs_text.specs.Printing.{fault_text};
+ghost use Rattle.cgs_program.specs.declared.words.Command.TheVariants.{Check};
+ghost use Rattle.cgs_program.specs.declared.status.Status.TheVariants.{Text};
+ghost use Rattle.cgs_program.specs.Due.{IsAnswer, IsAnswerOf, IsDueTo, whole, too_long, limit};
+ghost use Rattle.cgs_program.specs.Run.{RepliesTo, Makes};
+
+use crate::status::Status;
+use crate::words::{Command, Plan};
+use cgs_io::{ReadFault, Reading, Source, read_all};
+use cgs_list::ItemList;
+use cgs_text::{Problem, Text, TextFault, TextRefused, fault_text, problem_text, read_problem};
+use std::alloc::{AllocError, Global};
+
+/// The most bytes of an input.
+const LIMIT: u64 = 1048576;
+
+/// A text and the status with which it is written.
+#[derive(Debug, Drop)]
+pub(crate) struct Reply {
+    pub text: Text,
+    pub status: Status,
+}
+
+/// Why there is no reply.
+#[derive(Clone, Copy, Debug, PartialEq, Eq)]
+pub(crate) enum Halt {
+    /// The source failed.
+    Source,
+    /// Memory was short.
+    Memory,
+}
+
+impl From<AllocError> for Halt {
+    ghost use Rattle.cgs_program.specs.declared.reply.Halt.TheVariants.{Memory};
+
+    ghost from_gives = { λ _ e. e ≡ Memory };
+
+    fn from(_: AllocError) -> Self {
+        Halt::Memory
+    }
+}
+
+/// Reads the source, and makes the text due.
+pub(crate) fn make_reply<S: Source>(
+    alloc: Global,
+    plan: Plan,
+    source: &mut S,
+) -> Result<Reply, Halt>
+    ensures { RepliesTo plan
+        (record { bytes = S.left source.old; faults = S.faults source.old })
+        (record { bytes = S.left source.new; faults = S.faults source.new }) result }
+{
+    match read_all(alloc, source, LIMIT) {
+        Ok(Reading::Whole(bytes)) => reply_to(alloc, plan, &bytes),
+        Ok(Reading::TooLong) => reply_to_too_long(alloc, plan),
+        Err(ReadFault::Fault) => Err(Halt::Source),
+        Err(ReadFault::OutOfMemory) => Err(Halt::Memory),
+    }
+}
+
+/// The reply to an input that is too long.
+fn reply_to_too_long(alloc: Global, plan: Plan) -> Result<Reply, Halt>
+    ensures { Makes result (IsDueTo plan too_long) }
+{
+    let mut text = ItemList::new(alloc);
+    text.extend_from_slice(b"fault line 0 long\n")?;
+    Ok(Reply {
+        text,
+        status: Status::Text,
+    })
+}
+
+/// The reply to the bytes of a text.
+fn reply_to(alloc: Global, plan: Plan, bytes: &[u8]) -> Result<Reply, Halt>
+    requires { length bytes.now ≤ limit }
+    ensures { Makes result (IsDueTo plan (whole bytes.now)) }
+{
+    match read_problem(alloc, bytes) {
+        Ok(problem) => answer(alloc, plan, &problem),
+        Err(TextRefused::Fault(fault)) => reply_to_fault(alloc, fault),
+        Err(TextRefused::OutOfMemory) => Err(Halt::Memory),
+    }
+}
+
+/// The reply to a text that spells no problem.
+fn reply_to_fault(alloc: Global, fault: TextFault) -> Result<Reply, Halt>
+    ensures { Makes result (λ text end. (text ≡ fault_text fault) × (end ≡ Text)) }
+{
+    let mut text = ItemList::new(alloc);
+    fault_text(fault, &mut text)?;
+    Ok(Reply {
+        text,
+        status: Status::Text,
+    })
+}
+
+/// The answer for a problem that was read.
+fn answer(alloc: Global, plan: Plan, problem: &Problem) -> Result<Reply, Halt>
+    requires { IsProblem problem.now }
+    ensures { Makes result (IsAnswer plan problem.now) }
+{
+    match plan.command {
+        Command::Check => checked(alloc, problem),
+    }
+}
+
+/// The canonical text of a problem.
+fn checked(alloc: Global, problem: &Problem) -> Result<Reply, Halt>
+    requires { IsProblem problem.now }
+    ensures { Makes result (IsAnswerOf Check problem.now) }
+{
+    let mut text = ItemList::new(alloc);
+    problem_text(problem, &mut text)?;
+    Ok(Reply {
+        text,
+        status: Status::Done,
+    })
+}

@@ -1,0 +1,13 @@
+pub mod NumberLemmas
+pub mod PieceLemmas
+pub mod ProductLemmas
+pub mod TermLemmas
+pub mod HeaderLemmas
+pub mod PolyLineLemmas
+pub mod ReadingLemmas
+pub mod ReadingExamples
+pub mod PrintLemmas
+pub mod PrintedPowerLemmas
+pub mod PrintedTermLemmas
+pub mod PrintedPolynomialLemmas
+pub mod PrintExamples

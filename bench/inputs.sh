@@ -1,5 +1,5 @@
 #!/bin/sh
-# Writes the inputs of check.sh into a folder: texts of about 1,048,576 bytes at most, each a problem in the form that is read.
+# Writes the inputs of check.sh into a folder: texts of about 1,048,576 bytes at most, each a problem file.
 # Usage: bench/inputs.sh FOLDER
 set -eu
 mkdir -p "$1"
@@ -18,3 +18,8 @@ awk -v head="$head" 'BEGIN { print head; printf "poly x"; for (i = 1; i < 524200
 # one long token, and one long line of names
 awk 'BEGIN { printf "field "; for (i = 0; i < 1048000; i++) printf "7"; print "" }' >"$1/one_long_number"
 awk 'BEGIN { print "field 7"; printf "parameters"; for (i = 0; i < 500000; i++) printf " a"; print "" }' >"$1/many_names"
+# a mebibyte of comments, of blanks, and of points; and names that are all long
+awk -v head="$head" 'BEGIN { print head; for (i = 0; i < 16300; i++) print "# a line of sixty-three bytes that says nothing of any problem"; print "end" }' >"$1/comments"
+awk -v head="$head" 'BEGIN { print head; printf "poly x"; for (i = 0; i < 262000; i++) printf " \t \t"; print ""; print "end" }' >"$1/tabs"
+awk -v head="$head" 'BEGIN { print head; for (i = 0; i < 90000; i++) print "point " i % 9 " 77"; print "end" }' >"$1/points"
+awk 'BEGIN { n = "a23456789012345678901234567890"; print "field 32003"; printf "parameters"; for (i = 1; i < 9; i++) printf " %sp%d", n, i; print ""; printf "variables"; for (i = 1; i < 9; i++) printf " %sx%d", n, i; print ""; print "order grevlex"; printf "poly 1"; for (i = 0; i < 15000; i++) printf "-%sp%d*%sx%d", n, i % 8 + 1, n, int(i / 8) % 8 + 1; print ""; print "end" }' >"$1/long_names"

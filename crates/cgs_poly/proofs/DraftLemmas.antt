@@ -52,3 +52,30 @@ extended a b q from to cs es f h v k l r w p x y =
         let empty : ns ≡ [] = nil_from_length ns (omega (arith, length-take ((to - from) * q) (drop (from * q) es), length-drop (from * q) es)) in
         let g : take (to - from) (drop from f) ≡ [] = nil_from_length (take (to - from) (drop from f)) (omega (arith, length-take (to - from) (drop from f), length-drop from f)) in
         subst (λ g. Appended a b g) (sym g) (appended a b [] [] h (omega arith) p (x ∙ ap (λ l. a.coefficients.items ++ l) none) (y ∙ ap (λ l. a.exponents.items ++ l) empty))
+
+-- flat lists with as many exponents a term as a further monomial has
+pub record FlatFor (p : ℕ) (cs es : List ℕ) (f : List Term) : Type 0 where
+  pub flat : length es ≡ length cs * p
+  pub terms : terms_of p cs es ≡ f
+
+flat_for : (p q : ℕ) (cs es : List ℕ) (f : List Term) → terms_of q cs es ≡ f → length es ≡ length cs * q → HaveLength p f → FlatFor p cs es f
+flat_for p q cs es f v k l = elim (places_same p q cs es k (subst (λ g. HaveLength p g) (sym v) l)) [ inl e ↦ nothing e | inr e ↦ some e ]
+  where
+    nothing : cs ≡ [] → FlatFor p cs es f
+    nothing e =
+        let z : length cs ≡ 0 = ap length e in
+        let o : length es ≡ 0 = omega (arith, rw z at k) in
+        record { flat = rw z (omega arith); terms = cc (ap (λ n. terms_of p n es) e, ap (λ n. terms_of q n es) e) }
+
+    some : q ≡ p → FlatFor p cs es f
+    some e = record { flat = subst (λ n. length es ≡ length cs * n) e k; terms = subst (λ n. terms_of n cs es ≡ f) e v }
+
+pub pushed_at_end : (q c : ℕ) (cs es m : List ℕ) (f : List Term) → terms_of q cs es ≡ f → length es ≡ length cs * q → HaveLength (length m) f
+    → FlatFor (length m) (cs ++ c ∷ []) (es ++ m) (f ++ term c m ∷ [])
+pushed_at_end q c cs es m f v k l =
+    let h : FlatFor (length m) cs es f = flat_for (length m) q cs es f v k l in
+    let t : take (length m) m ≡ m = take_all (length m) m (omega arith) in
+    record {
+      flat = rw (length-append cs (c ∷ []), length-append es m, h.flat) (omega arith);
+      terms = terms_append (length m) cs (c ∷ []) es m h.flat ∙ cc (h.terms, t);
+    }

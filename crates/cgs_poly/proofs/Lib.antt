@@ -6,3 +6,8 @@ pub mod FlatLemmas
 pub mod DraftLemmas
 pub mod PlaceLemmas
 pub mod ProductOrderLemmas
+pub mod ProductLemmas
+pub mod ChangedLemmas
+pub mod FaultLemmas
+pub mod ParameterLemmas
+pub mod MultipleLemmas

@@ -1,5 +1,5 @@
 -- The term at a place of a list: what is behind it, and what holds of it.
-use Rattle.std.proofs.Common.{ℕ, zero, suc, ◌≡◌, ◌+◌, ◌-◌, ◌<◌, ◌≤◌, Bool, true, false, Option, Some, None, cond, List, [], ◌∷◌, length, take, drop, refl, sym, ap, subst, arith, add-one}
+use Rattle.std.proofs.Common.{ℕ, zero, suc, ◌≡◌, ◌+◌, ◌-◌, ◌<◌, ◌≤◌, max, Bool, true, false, Option, Some, None, cond, List, [], ◌∷◌, length, take, drop, refl, sym, ap, subst, arith, add-one}
 use Rattle.std.specs.Prelude.{slice_get}
 use Rattle.std.specs.declared.cmp.Ordering.{Ordering}
 use Rattle.std.specs.declared.cmp.Ordering.TheVariants.{Less, Equal, Greater}
@@ -10,6 +10,8 @@ use Rattle.cgs_order.specs.TermOrder.{compared}
 use Rattle.cgs_order.proofs.OrderLemmas.{cmp_self, cmp_equal}
 use Rattle.cgs_poly.specs.declared.ring.Ring.{Ring}
 use Rattle.cgs_poly.specs.Polynomial.{Term, term, places, IsCanonical}
+use Rattle.cgs_exps.specs.Monomial.{degree}
+use Rattle.cgs_poly.specs.Product.{top_degree}
 use Rattle.cgs_poly.specs.Draft.{HaveLength}
 use Rattle.cgs_poly.specs.Merge.{AreAbove, StartsNotAbove, first_at, count_at, changed, EachTerm}
 
@@ -130,3 +132,26 @@ count_few m (x ∷ f) = step (is_eq (slice_cmp nat_cmp x.exponents m))
 pub each_trivial : (f : List Term) → EachTerm (λ c m. Unit {0}) f
 each_trivial [] = tt
 each_trivial (x ∷ f) = (tt, each_trivial f)
+
+pub each_so : (P : Type 0) → P → (f : List Term) → EachTerm (λ c m. P) f
+each_so P h [] = tt
+each_so P h (x ∷ f) = (h, each_so P h f)
+
+pub canonical_short : (ring : Ring) (f : List Term) → places ring ≤ 17 → IsCanonical ring f → EachTerm (λ c m. length m ≤ 17) f
+canonical_short ring [] l h = tt
+canonical_short ring (x ∷ f) l h = (omega (arith, h.2), canonical_short ring f l h.4)
+
+-- the greatest degree of a front
+
+pub top_more : (f : List Term) (i : ℕ) (x : Term) → slice_get f i ≡ Some x → top_degree (take (i + 1) f) ≡ max (top_degree (take i f)) (degree x.exponents)
+top_more [] i x e = absurd (cc)
+top_more (y ∷ f) zero x e = let s : y ≡ x = some_same y x e in rw s (omega arith)
+top_more (y ∷ f) (suc i) x e = rw add-one (omega (arith, rw add-one at (top_more f i x e)))
+
+pub top_at : (f : List Term) (i : ℕ) (x : Term) → slice_get f i ≡ Some x → degree x.exponents ≤ top_degree f
+top_at [] i x e = absurd (cc)
+top_at (y ∷ f) zero x e = let s : y ≡ x = some_same y x e in rw (← s) (omega arith)
+top_at (y ∷ f) (suc i) x e = omega (arith, top_at f i x e)
+
+pub take_one : (f : List Term) (i n : ℕ) (x : Term) → slice_get f i ≡ Some x → n ≡ 1 → take n (drop i f) ≡ x ∷ []
+take_one f i n x e q = rw (q, drop_get f i x e) refl

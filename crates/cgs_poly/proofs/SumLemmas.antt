@@ -7,7 +7,8 @@ use Rattle.std.specs.declared.cmp.Ordering.TheVariants.{Less, Equal, Greater}
 use Rattle.std.specs.Ordering.{nat_cmp, is_eq}
 use Rattle.cgs_field.proofs.ModularLemmas.{mod_add, mod_mul, mod_opposite, mod_cancel}
 use Rattle.cgs_order.proofs.OrderLemmas.{cmp_equal, cmp_self}
-use Rattle.cgs_poly.specs.Polynomial.{Term, term, total, only, SameCoefficients}
+use Rattle.cgs_poly.specs.Product.{scaled}
+use Rattle.cgs_poly.specs.Polynomial.{Term, total, only, SameCoefficients}
 
 -- sums
 
@@ -54,12 +55,7 @@ abbrev without : List ℕ → List Term → List Term
 without m [] = []
 without m (x ∷ f) = cond (is_eq (slice_cmp nat_cmp m x.exponents)) (without m f) (x ∷ without m f)
 
-scaled : ℕ → List Term → List Term
-scaled c [] = []
-scaled c (x ∷ f) = term (c * x.coefficient) x.exponents ∷ scaled c f
-
-total_scaled : (w : List ℕ → ℕ) (c : ℕ) (f : List Term) → total w (scaled c f) ≡ c * total w f
-unfolding scaled
+pub total_scaled : (w : List ℕ → ℕ) (c : ℕ) (f : List Term) → total w (scaled c f) ≡ c * total w f
 total_scaled w c [] = omega arith
 total_scaled w c (x ∷ f) = omega (arith, total_scaled w c f)
 

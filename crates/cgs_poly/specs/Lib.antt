@@ -2,4 +2,6 @@ pub mod Polynomial
 pub mod Flat
 pub mod Draft
 pub mod Merge
+pub mod Product
+pub mod Parameters
 pub mod Laws

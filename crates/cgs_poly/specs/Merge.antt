@@ -1,12 +1,13 @@
 -- One step of a merge of two sorted lists: what goes before, and what becomes of a term of the second list.
-use Rattle.std.specs.Prelude.{ℕ, ◌≡◌, ◌+◌, cond, Option, Some, None, List, [], ◌∷◌}
+use Rattle.std.specs.Prelude.{ℕ, ◌≡◌, ◌≤◌, ◌+◌, cond, Option, Some, None, List, [], ◌∷◌, length}
 use Rattle.std.specs.declared.cmp.Ordering.TheVariants.{Greater}
 use Rattle.std.specs.Ordering.{is_eq, nat_cmp}
 use Rattle.std.specs.Cmp.Lexicographic.{slice_cmp}
 use Rattle.cgs_order.specs.declared.block.BlockOrder.{BlockOrder}
 use Rattle.cgs_order.specs.TermOrder.{compared}
+use Rattle.cgs_exps.specs.Monomial.{degree}
 use Rattle.cgs_poly.specs.declared.ring.Ring.{Ring}
-use Rattle.cgs_poly.specs.Polynomial.{Term, term, only, kept}
+use Rattle.cgs_poly.specs.Polynomial.{Term, term, only, kept, greatest_degree}
 
 -- each monomial is above m
 abbrev pub AreAbove : BlockOrder → List ℕ → List Term → Type 0
@@ -42,3 +43,9 @@ changed a b (x ∷ f) = term (a x.coefficient) (b x.exponents) ∷ changed a b f
 abbrev pub EachTerm : (ℕ → List ℕ → Type 0) → List Term → Type 0
 EachTerm P [] = Unit {0}
 EachTerm P (x ∷ f) = P x.coefficient x.exponents × EachTerm P f
+
+-- two monomials of as many places, with a product of a low degree
+pub record CanMultiply (m n : List ℕ) : Type 0 where
+  pub places : length m ≡ length n
+  pub few : length n ≤ 17
+  pub low : degree m + degree n ≤ greatest_degree

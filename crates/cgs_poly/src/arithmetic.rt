@@ -1,12 +1,17 @@
 //! The arithmetic of polynomials.
 
-ghost use Rattle.std.specs.Prelude.{ℕ, List, ◌≡◌, ◌+◌, ◌++◌, ◌%◌, IfOk};
-ghost use Rattle.cgs_poly.specs.Polynomial.{IsRing, IsPoly, canonical, coefficient};
+ghost use Rattle.std.specs.Prelude.{ℕ, List, [], ◌∷◌, ◌≡◌, ◌+◌, ◌-◌, ◌*◌, ◌++◌, ◌%◌, ◌<◌, ◌≤◌, ◌↔◌, length, take, drop, IsTrue, IfOk, IsErrOf};
+ghost use Rattle.cgs_poly.specs.Polynomial.{IsRing, IsPoly, HasLowDegrees, places, canonical, coefficient, greatest_degree};
+ghost use Rattle.cgs_poly.specs.Product.{scaled, multiple, all_products, lead_coefficient, top_degree};
+ghost use Rattle.cgs_poly.specs.Merge.{EachTerm};
 
-use crate::merge::merge;
-use crate::multiple::Once;
+use crate::fault::PolyFault;
+use crate::merge::{merge, multiplied};
+use crate::multiple::{Factor, Once, Scalar};
 use crate::poly::Poly;
 use crate::ring::Ring;
+use cgs_exps::{MAX_DEGREE, degree};
+use cgs_field::Elem;
 use std::alloc::{AllocError, Global};
 
 impl Poly {
@@ -22,4 +27,146 @@ impl Poly {
         let sum = merge(alloc, ring, f, g, &Once)?;
         Ok(sum)
     }
+
+    /// The number c times f.
+    pub fn scale(alloc: Global, ring: &Ring, c: Elem, f: &Poly) -> Result<Poly, AllocError>
+        requires ring { IsRing ring.now }
+        requires below { c < ring.now.modulus }
+        requires poly { IsPoly ring.now f.now }
+        ensures multiple { IfOk result (λ h. h ≡ canonical ring.now (scaled c f.now)) }
+        ensures poly { IfOk result (λ h. IsPoly ring.now h) }
+        ensures coefficients { IfOk result (λ h. (m : List ℕ) → coefficient ring.now.modulus h m ≡ (c * coefficient ring.now.modulus f.now m) % ring.now.modulus) }
+    {
+        if c.number() == 0 {
+            return Ok(Poly::zero(alloc));
+        }
+        let scaled = multiplied(alloc, ring, f, &Scalar { number: c })?;
+        Ok(scaled)
+    }
+
+    /// The multiple of f by a number whose leading coefficient is 1; 0 stays 0.
+    pub fn monic(alloc: Global, ring: &Ring, f: &Poly) -> Result<Poly, AllocError>
+        requires ring { IsRing ring.now }
+        requires poly { IsPoly ring.now f.now }
+        ensures zero { IfOk result (λ h. f.now ≡ [] → h ≡ []) }
+        ensures lead { IfOk result (λ h. ¬ (f.now ≡ []) → lead_coefficient h ≡ 1) }
+        ensures multiple { IfOk result (λ h. f.now ≡ canonical ring.now (scaled (lead_coefficient f.now) h)) }
+        ensures poly { IfOk result (λ h. IsPoly ring.now h) }
+    {
+        let Some(lead) = f.lead() else {
+            return Ok(Poly::zero(alloc));
+        };
+        let scaled = Poly::scale(alloc, ring, ring.modulus.inverse(lead.coefficient), f)?;
+        Ok(scaled)
+    }
+
+    /// f minus c times m times g, in one pass over both. It errs where a monomial of m times g has a degree above 32767,
+    /// before memory is taken.
+    pub fn sub_multiple(
+        alloc: Global,
+        ring: &Ring,
+        f: &Poly,
+        c: Elem,
+        m: &[u16],
+        g: &Poly,
+    ) -> Result<Poly, PolyFault>
+        requires ring { IsRing ring.now }
+        requires first { IsPoly ring.now f.now }
+        requires positive { 0 < c }
+        requires below { c < ring.now.modulus }
+        requires places { length m.now ≡ places ring.now }
+        requires second { IsPoly ring.now g.now }
+        ensures difference { IfOk result (λ h. h ≡ canonical ring.now (f.now ++ multiple (ring.now.modulus - c) m.now g.now)) }
+        ensures poly { IfOk result (λ h. IsPoly ring.now h) }
+        ensures degree { IsErrOf result PolyFault.Degree ↔ (¬ HasLowDegrees (multiple c m.now g.now)) }
+        ensures coefficients { IfOk result (λ h. (n : List ℕ) → (coefficient ring.now.modulus h n + coefficient ring.now.modulus (multiple c m.now g.now) n) % ring.now.modulus ≡ coefficient ring.now.modulus f.now n) }
+    {
+        if g.exceeds(degree(m)) {
+            return Err(PolyFault::Degree);
+        }
+        let factor = Factor {
+            coefficient: ring.modulus.neg(c),
+            exponents: m,
+        };
+        let difference = merge(alloc, ring, f, g, &factor)?;
+        Ok(difference)
+    }
+
+    /// The product. It errs where two monomials that are multiplied have degrees above 32767 together, before memory is
+    /// taken.
+    pub fn product(alloc: Global, ring: &Ring, f: &Poly, g: &Poly) -> Result<Poly, PolyFault>
+        requires ring { IsRing ring.now }
+        requires first { IsPoly ring.now f.now }
+        requires second { IsPoly ring.now g.now }
+        ensures product { IfOk result (λ h. h ≡ canonical ring.now (all_products f.now g.now)) }
+        ensures poly { IfOk result (λ h. IsPoly ring.now h) }
+        ensures degree { IsErrOf result PolyFault.Degree ↔ (¬ HasLowDegrees (all_products f.now g.now)) }
+        ensures coefficients { IfOk result (λ h. (n : List ℕ) → coefficient ring.now.modulus h n ≡ coefficient ring.now.modulus (all_products f.now g.now) n) }
+    {
+        if f.len() == 0 {
+            return Ok(Poly::zero(alloc));
+        }
+        if g.exceeds(f.top_degree()) {
+            return Err(PolyFault::Degree);
+        }
+        let product = product_of(alloc, ring, f, 0, f.len(), g)?;
+        Ok(product)
+    }
+
+    // Whether there are terms, and some monomial has a degree above 32767 together with a further degree.
+    fn exceeds(&self, further: u32) -> bool
+        requires { EachTerm (λ c m. length m ≤ 17) self.now }
+        ensures { IsTrue result ↔ ((0 < length self.now) × (greatest_degree < further + top_degree self.now)) }
+    {
+        if self.len() == 0 {
+            return false;
+        }
+        u64::from(further) + u64::from(self.top_degree()) > u64::from(MAX_DEGREE)
+    }
+
+    // The greatest degree of a monomial.
+    fn top_degree(&self) -> u32
+        requires { EachTerm (λ c m. length m ≤ 17) self.now }
+        ensures { result ≡ top_degree self.now }
+    {
+        let mut top = 0;
+        for i in 0..self.len() {
+            top = top.max(degree(self.term(i).exponents));
+        }
+        top
+    }
+}
+
+// The product of some terms of f, from one place up to another, and g: the sum of the products of both halves.
+fn product_of(
+    alloc: Global,
+    ring: &Ring,
+    f: &Poly,
+    from: usize,
+    to: usize,
+    g: &Poly,
+) -> Result<Poly, AllocError>
+    requires ring { IsRing ring.now }
+    requires first { IsPoly ring.now f.now }
+    requires second { IsPoly ring.now g.now }
+    requires some { from < to }
+    requires within { to ≤ length f.now }
+    requires low { top_degree f.now + top_degree g.now ≤ greatest_degree }
+    ensures product { IfOk result (λ h. h ≡ canonical ring.now (all_products (take (to - from) (drop from f.now)) g.now)) }
+    ensures poly { IfOk result (λ h. IsPoly ring.now h) }
+{
+    if to - from == 1 {
+        let term = f.term(from);
+        let factor = Factor {
+            coefficient: term.coefficient,
+            exponents: term.exponents,
+        };
+        let part = multiplied(alloc, ring, g, &factor)?;
+        return Ok(part);
+    }
+    let half = from + (to - from) / 2;
+    let first = product_of(alloc, ring, f, from, half, g)?;
+    let second = product_of(alloc, ring, f, half, to, g)?;
+    let sum = Poly::add(alloc, ring, &first, &second)?;
+    Ok(sum)
 }

@@ -65,6 +65,23 @@ impl Draft {
         Ok(())
     }
 
+    // Puts a term at the end whose monomial is given in two parts.
+    pub(crate) fn push_parts(
+        &mut self,
+        c: Elem,
+        head: &[u16],
+        tail: &[u16],
+    ) -> Result<(), AllocError>
+        requires flat { IsFlat self.old }
+        requires places { length head.now + length tail.now ≡ self.old.places }
+        ensures { OnOk result (Appended self.old self.new (term c (head.now ++ tail.now) ∷ [])) }
+    {
+        self.coefficients.push(c)?;
+        self.exponents.extend_from_slice(head)?;
+        self.exponents.extend_from_slice(tail)?;
+        Ok(())
+    }
+
     // Puts the terms of a polynomial from one place up to another at the end.
     pub(crate) fn extend(&mut self, f: &Poly, from: usize, to: usize) -> Result<(), AllocError>
         requires flat { IsFlat self.old }

@@ -12,6 +12,7 @@ mod flat;
 mod laws;
 mod merge;
 mod multiple;
+mod parameters;
 mod poly;
 mod ring;
 

@@ -46,6 +46,24 @@ pub(crate) fn merge<M: Multiple>(
     Ok(sum.finish())
 }
 
+/// The multiple of `g` alone.
+pub(crate) fn multiplied<M: Multiple>(
+    alloc: Global,
+    ring: &Ring,
+    g: &Poly,
+    by: &M,
+) -> Result<Poly, AllocError>
+    requires ring { IsRing ring.now }
+    requires terms { IsCanonical ring.now g.now }
+    requires can { EachTerm (M.can_multiply by.now ring.now.modulus) g.now }
+    requires multiple { IsCanonical ring.now (changed (M.coefficient by.now ring.now.modulus) (M.monomial by.now) g.now) }
+    ensures { IfOk result (λ h. h ≡ changed (M.coefficient by.now ring.now.modulus) (M.monomial by.now) g.now) }
+{
+    let zero = Poly::zero(alloc);
+    let multiple = merge(alloc, ring, &zero, g, by)?;
+    Ok(multiple)
+}
+
 // The first place from `from` on whose monomial is not above m.
 fn end_above(order: &BlockOrder, f: &Poly, from: usize, m: &[u16]) -> usize
     requires within { from ≤ length f.now }

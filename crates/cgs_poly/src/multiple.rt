@@ -1,8 +1,10 @@
 //! What the second list of a merge is multiplied by on the way.
 
-ghost use Rattle.std.specs.Prelude.{◌≡◌, ◌<◌, ℕ, List, length};
+ghost use Rattle.std.specs.Prelude.{◌≡◌, ◌<◌, ◌≤◌, ◌*◌, ◌%◌, ℕ, List, length, take};
+ghost use Rattle.cgs_exps.specs.Monomial.{product};
+ghost use Rattle.cgs_poly.specs.Merge.{CanMultiply};
 
-use cgs_exps::MAX_PLACES;
+use cgs_exps::{MAX_PLACES, product_into};
 use cgs_field::{Elem, Modulus};
 
 /// A factor of all terms of a list.
@@ -56,5 +58,61 @@ impl Multiple for Once {
 
     fn times_monomial<'a>(&self, m: &'a [u16], _room: &'a [u16; MAX_PLACES]) -> &'a [u16] {
         m
+    }
+}
+
+/// A number as factor.
+#[derive(Clone, Copy)]
+pub(crate) struct Scalar {
+    pub(crate) number: Elem,
+}
+
+impl Multiple for Scalar {
+    ghost can_multiply = { λ scalar p c m. scalar.number < p };
+
+    ghost coefficient = { λ scalar p c. (scalar.number * c) % p };
+
+    ghost monomial = { λ scalar m. m };
+
+    ghost is_ready = { λ scalar m room. Unit {0} };
+
+    fn times_coefficient(&self, modulus: Modulus, c: Elem, _m: &[u16]) -> Elem {
+        modulus.mul(self.number, c)
+    }
+
+    fn prepare(&self, _modulus: Modulus, _c: Elem, _m: &[u16], _room: &mut [u16; MAX_PLACES]) {}
+
+    fn times_monomial<'a>(&self, m: &'a [u16], _room: &'a [u16; MAX_PLACES]) -> &'a [u16] {
+        m
+    }
+}
+
+/// A number times a monomial as factor.
+#[derive(Clone, Copy)]
+pub(crate) struct Factor<'a> {
+    pub(crate) coefficient: Elem,
+    pub(crate) exponents: &'a [u16],
+}
+
+impl<'f> Multiple for Factor<'f> {
+    ghost can_multiply = { λ factor p c m. (factor.coefficient < p) × CanMultiply factor.exponents.now m };
+
+    ghost coefficient = { λ factor p c. (factor.coefficient * c) % p };
+
+    ghost monomial = { λ factor m. product factor.exponents.now m };
+
+    ghost is_ready = { λ factor m room. (length m ≤ 17) × (take (length m) room ≡ product factor.exponents.now m) };
+
+    fn times_coefficient(&self, modulus: Modulus, c: Elem, _m: &[u16]) -> Elem {
+        modulus.mul(self.coefficient, c)
+    }
+
+    fn prepare(&self, _modulus: Modulus, _c: Elem, m: &[u16], room: &mut [u16; MAX_PLACES]) {
+        let product = &mut room[..m.len()];
+        let _low = product_into(self.exponents, m, product);
+    }
+
+    fn times_monomial<'a>(&self, m: &'a [u16], room: &'a [u16; MAX_PLACES]) -> &'a [u16] {
+        &room[..m.len()]
     }
 }

@@ -1,8 +1,9 @@
 //! A polynomial, kept in two flat vectors.
 
-ghost use Rattle.std.specs.Prelude.{◌≡◌, ◌<◌, ◌≤◌, ◌^◌, ◌↔◌, [], ◌∷◌, length, drop, slice_get, IsTrue, IfOk, IsErrOf};
+ghost use Rattle.std.specs.Prelude.{◌≡◌, ◌<◌, ◌≤◌, ◌^◌, ◌↔◌, [], ◌∷◌, ◌++◌, length, drop, slice_get, IsTrue, IsNone, IfSome, IfOk, OnOk, OnErr, IsErrOf};
 ghost use Rattle.cgs_exps.specs.Monomial.{degree};
 ghost use Rattle.cgs_poly.specs.Polynomial.{IsRing, IsPoly, places, term, canonical, greatest_degree};
+ghost use Rattle.cgs_poly.specs.Draft.{HaveLength};
 ghost use Rattle.cgs_poly.specs.Merge.{first_at};
 
 use crate::draft::Draft;
@@ -12,7 +13,7 @@ use crate::ring::Ring;
 use cgs_exps::{MAX_DEGREE, degree as monomial_degree};
 use cgs_field::Elem;
 use cgs_list::ItemList;
-use std::alloc::Global;
+use std::alloc::{AllocError, Global};
 use std::marker::Model;
 
 /// A list of polynomials.
@@ -93,6 +94,43 @@ impl Poly {
             coefficient: self.coefficients[i],
             exponents: part(&self.exponents, self.places, i, i + 1),
         }
+    }
+
+    /// The term with the greatest monomial.
+    pub fn lead(&self) -> Option<Term<'_>>
+        ensures none { IsNone result ↔ (self.now ≡ []) }
+        ensures first { IfSome result (λ x. slice_get self.now 0 ≡ Some (term x.coefficient x.exponents.now)) }
+    {
+        if self.len() == 0 {
+            return None;
+        }
+        Some(self.term(0))
+    }
+
+    /// Puts a term at the end. An error leaves the polynomial as it was. The caller keeps the order of the terms.
+    pub fn push(&mut self, c: Elem, m: &[u16]) -> Result<(), AllocError>
+        requires places { HaveLength (length m.now) self.old }
+        ensures ok { OnOk result (self.new ≡ self.old ++ term c m.now ∷ []) }
+        ensures err { OnErr result (self.new ≡ self.old) }
+    {
+        self.coefficients.reserve(1)?;
+        self.exponents.extend_from_slice(m)?;
+        self.coefficients.push(c)?;
+        self.places = m.len();
+        Ok(())
+    }
+
+    /// The same polynomial in memory of its own.
+    pub fn copy(&self) -> Result<Poly, AllocError>
+        ensures { IfOk result (λ f. f ≡ self.now) }
+    {
+        let coefficients = self.coefficients.clone()?;
+        let exponents = self.exponents.clone()?;
+        Ok(Poly {
+            coefficients,
+            exponents,
+            places: self.places,
+        })
     }
 
     /// Whether two polynomials are equal.

@@ -1,6 +1,6 @@
 //! Worked examples, and each call that takes memory met once with ample memory.
 
-ghost use Rattle.std.specs.Prelude.{◌≡◌, IfSome, IfOk};
+ghost use Rattle.std.specs.Prelude.{◌≡◌, ◌≤◌, IfSome, IfOk};
 ghost use Rattle.cgs_poly.specs.Polynomial.{IsRing, IsPoly, places};
 
 use crate::{Poly, PolyFault, Ring};
@@ -11,16 +11,18 @@ use std::test::Fail;
 
 type Terms<'a> = &'a [(u16, [u16; 2])];
 
-// Modulo 7 in x and y, lexicographic.
-fn ring() -> Option<Ring>
+// Modulo 7 in two places, of which some are variables and the others parameters, lexicographic.
+fn ring(variables: u32) -> Option<Ring>
+    requires some { 1 ≤ variables }
+    requires most { variables ≤ 2 }
     ensures valid { IfSome result (λ ring. IsRing ring) }
     ensures two { IfSome result (λ ring. places ring ≡ 2) }
 {
     let modulus = Modulus::of(7)?;
     Some(Ring {
         modulus,
-        variables: 2,
-        parameters: 0,
+        variables,
+        parameters: 2 - variables,
         kind: Kind::Lex,
     })
 }
@@ -53,7 +55,7 @@ fn has_terms(f: &Poly, terms: Terms<'_>) -> bool {
 
 #[test]
 fn sums(rt: HostRuntime) -> Result<(), Fail> {
-    let ring = ring().ok_or("no ring")?;
+    let ring = ring(2).ok_or("no ring")?;
     // f, g, f + g
     let rows: [(Terms<'_>, Terms<'_>, Terms<'_>); 3] = [
         (
@@ -81,7 +83,7 @@ fn sums(rt: HostRuntime) -> Result<(), Fail> {
 
 #[test]
 fn degrees(rt: HostRuntime) -> Result<(), Fail> {
-    let ring = ring().ok_or("no ring")?;
+    let ring = ring(2).ok_or("no ring")?;
     let one = ring.modulus.of_u64(1);
     let most = Poly::of_term(rt.alloc(), &ring, one, &[32766, 1])?;
     assert!(rt; has_terms(&most, &[(1, [32766, 1])]));
@@ -89,5 +91,54 @@ fn degrees(rt: HostRuntime) -> Result<(), Fail> {
     assert_eq!(rt; refused.map(|_| ()), Err(PolyFault::Degree));
     let nothing = Poly::of_term(rt.alloc(), &ring, ring.modulus.of_u64(7), &[1, 1])?;
     assert_eq!(rt; nothing.len(), 0);
+    Ok(())
+}
+
+#[test]
+fn products(rt: HostRuntime) -> Result<(), Fail> {
+    let ring = ring(2).ok_or("no ring")?;
+    let one = ring.modulus.of_u64(1);
+    assert!(rt; one.number() > 0);
+    let f = poly(rt.alloc(), &ring, &[(1, [1, 0]), (1, [0, 0])])?;
+    let g = poly(rt.alloc(), &ring, &[(1, [1, 0]), (6, [0, 0])])?;
+    let product = Poly::product(rt.alloc(), &ring, &f, &g)?;
+    assert!(rt; has_terms(&product, &[(1, [2, 0]), (6, [0, 0])]));
+    let square = poly(rt.alloc(), &ring, &[(1, [2, 0])])?;
+    let difference = Poly::sub_multiple(rt.alloc(), &ring, &square, one, &[1, 0], &g)?;
+    assert!(rt; has_terms(&difference, &[(1, [1, 0])]));
+    let most = poly(rt.alloc(), &ring, &[(1, [32767, 0])])?;
+    let refused = Poly::product(rt.alloc(), &ring, &most, &f);
+    assert_eq!(rt; refused.map(|_| ()), Err(PolyFault::Degree));
+    let refused = Poly::sub_multiple(rt.alloc(), &ring, &f, one, &[0, 1], &most);
+    assert_eq!(rt; refused.map(|_| ()), Err(PolyFault::Degree));
+    Ok(())
+}
+
+#[test]
+fn multiples(rt: HostRuntime) -> Result<(), Fail> {
+    let ring = ring(2).ok_or("no ring")?;
+    let f = poly(rt.alloc(), &ring, &[(3, [1, 0]), (6, [0, 0])])?;
+    let monic = Poly::monic(rt.alloc(), &ring, &f)?;
+    assert!(rt; has_terms(&monic, &[(1, [1, 0]), (2, [0, 0])]));
+    let back = Poly::scale(rt.alloc(), &ring, ring.modulus.of_u64(3), &monic)?;
+    assert!(rt; back.same(&f));
+    assert!(rt; f.copy()?.same(&f));
+    let mut pushed = Poly::zero(rt.alloc());
+    pushed.push(ring.modulus.of_u64(3), &[1, 0])?;
+    assert!(rt; has_terms(&pushed, &[(3, [1, 0])]));
+    let zero = Poly::monic(rt.alloc(), &ring, &Poly::zero(rt.alloc()))?;
+    assert_eq!(rt; (zero.len(), zero.lead().is_none()), (0, true));
+    Ok(())
+}
+
+#[test]
+fn leading_parts(rt: HostRuntime) -> Result<(), Fail> {
+    // in x with the parameter a
+    let ring = ring(1).ok_or("no ring")?;
+    let f = poly(rt.alloc(), &ring, &[(6, [0, 0]), (1, [1, 1]), (2, [1, 0])])?;
+    assert_eq!(rt; f.lead_x(&ring), Some([1].as_slice()));
+    assert!(rt; f.len() > 0);
+    let part = Poly::lc_x(rt.alloc(), &ring, &f)?;
+    assert!(rt; has_terms(&part, &[(1, [0, 1]), (2, [0, 0])]));
     Ok(())
 }

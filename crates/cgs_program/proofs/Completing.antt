@@ -2,14 +2,14 @@
 use Rattle.std.proofs.Common.{◌≡◌, ℕ, ◌≤◌, List, ◌++◌, length, Option, Some, None, Result, Ok, refl, sym, subst, ap, ◌∙◌, inl, inr, ◌⊎◌, arith}
 use Rattle.std.proofs.lemmas.List.{append-nil, length-append}
 use Rattle.std.specs.Io.KnownBytes.{Consumes, IsAtEnd, Appends}
-use Rattle.cgs_text.specs.declared.problem.Problem.{Problem}
-use Rattle.cgs_text.specs.declared.fault.TextFault.{TextFault}
-use Rattle.cgs_text.specs.Reading.{problem_spelled}
-use Rattle.cgs_program.specs.declared.words.Plan.{Plan}
-use Rattle.cgs_program.specs.declared.words.WordFault.{WordFault}
+use Rattle.cgs_problem.specs.declared.problem.Problem.{Problem}
+use Rattle.cgs_problem.specs.declared.fault.TextFault.{TextFault}
+use Rattle.cgs_problem.specs.Reading.{problem_spelled}
+use Rattle.cgs_words.specs.declared.plan.Plan.{Plan}
+use Rattle.cgs_words.specs.declared.plan.WordFault.{WordFault}
 use Rattle.cgs_program.specs.declared.status.Status.{Status}
 use Rattle.cgs_program.specs.declared.status.Status.TheVariants as status
-use Rattle.cgs_program.specs.Words.{plan_of}
+use Rattle.cgs_words.specs.Words.{plan_of}
 use Rattle.cgs_program.specs.Due.{Got, nothing_read, whole, too_long, limit, own_problem, IsAnswer, IsReply, IsDueTo, IsDueFor}
 use Rattle.cgs_program.specs.Run.{Seen, Took, Writes, Ends, Accepts, Completes}
 

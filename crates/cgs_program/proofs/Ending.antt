@@ -1,13 +1,13 @@
 -- Which statuses come with a text, and what a run comes to whose text was written or not.
 use Rattle.std.proofs.Common.{◌≡◌, ℕ, List, [], Result, Ok, Err, refl, sym, subst, inl, inr}
 use Rattle.std.proofs.KnownBytes.{Keeps-refl, Consumes-nil, Consumes-kept}
-use Rattle.cgs_text.specs.declared.problem.Problem.{Problem}
-use Rattle.cgs_text.specs.declared.fault.TextFault.{TextFault}
-use Rattle.cgs_text.specs.Reading.{problem_spelled}
-use Rattle.cgs_program.specs.declared.words.Command.{Command}
-use Rattle.cgs_program.specs.declared.words.Command.TheVariants.{Check}
-use Rattle.cgs_program.specs.declared.words.Plan.{Plan}
-use Rattle.cgs_program.specs.declared.words.WordFault.{WordFault}
+use Rattle.cgs_problem.specs.declared.problem.Problem.{Problem}
+use Rattle.cgs_problem.specs.declared.fault.TextFault.{TextFault}
+use Rattle.cgs_problem.specs.Reading.{problem_spelled}
+use Rattle.cgs_words.specs.declared.plan.Command.{Command}
+use Rattle.cgs_words.specs.declared.plan.Command.TheVariants.{Check}
+use Rattle.cgs_words.specs.declared.plan.Plan.{Plan}
+use Rattle.cgs_words.specs.declared.plan.WordFault.{WordFault}
 use Rattle.cgs_program.specs.declared.status.Status.{Status}
 use Rattle.cgs_program.specs.declared.status.Status.TheVariants as status
 use Rattle.cgs_program.specs.declared.reply.Reply.{Reply}

@@ -1,14 +1,14 @@
 -- The text that is due, and the status with which it is written.
 use Rattle.std.specs.Prelude.{◌≡◌, ℕ, List, codes, Option, Some, None, Result, Ok, Err}
-use Rattle.cgs_text.specs.declared.problem.Problem.{Problem}
-use Rattle.cgs_text.specs.declared.fault.TextFault.{TextFault}
-use Rattle.cgs_text.specs.Reading.{problem_spelled}
-use Rattle.cgs_text.specs.Printing.{problem_text, fault_text}
-use Rattle.cgs_program.specs.declared.words.Command.{Command}
-use Rattle.cgs_program.specs.declared.words.Command.TheVariants.{Check}
-use Rattle.cgs_program.specs.declared.words.Plan.{Plan}
-use Rattle.cgs_program.specs.declared.words.WordFault.{WordFault}
-use Rattle.cgs_program.specs.declared.words.WordFault.TheVariants.{NoWord, Command as UnknownCommand, Option as UnknownOption}
+use Rattle.cgs_problem.specs.declared.problem.Problem.{Problem}
+use Rattle.cgs_problem.specs.declared.fault.TextFault.{TextFault}
+use Rattle.cgs_problem.specs.Reading.{problem_spelled}
+use Rattle.cgs_print.specs.Printing.{problem_text, fault_text}
+use Rattle.cgs_words.specs.declared.plan.Command.{Command}
+use Rattle.cgs_words.specs.declared.plan.Command.TheVariants.{Check}
+use Rattle.cgs_words.specs.declared.plan.Plan.{Plan}
+use Rattle.cgs_words.specs.declared.plan.WordFault.{WordFault}
+use Rattle.cgs_words.specs.declared.plan.WordFault.TheVariants as word
 use Rattle.cgs_program.specs.declared.status.Status.{Status}
 use Rattle.cgs_program.specs.declared.status.Status.TheVariants as status
 
@@ -33,9 +33,11 @@ pub data Got : Type 0 where
   too_long : Got
 
 abbrev pub word_fault_text : WordFault → List ℕ
-word_fault_text NoWord = codes "fault words none\n"
-word_fault_text UnknownCommand = codes "fault words command\n"
-word_fault_text UnknownOption = codes "fault words option\n"
+word_fault_text word.NoWord = codes "fault words none\n"
+word_fault_text word.Command = codes "fault words command\n"
+word_fault_text word.Option = codes "fault words option\n"
+word_fault_text word.Repeat = codes "fault words repeat\n"
+word_fault_text word.Value = codes "fault words value\n"
 
 -- The answer of a command for a problem. A further command is a further case.
 abbrev pub IsAnswerOf : Command → Problem → List ℕ → Status → Type 0

@@ -3,16 +3,16 @@ use Rattle.std.specs.Prelude.{◌≡◌, ◌≤◌, ◌⊎◌, ℕ, ◌+◌, Lis
 use Rattle.std.specs.Io.KnownBytes.{Consumes, IsAtEnd, Keeps, Appends}
 use Rattle.cgs_io.specs.Causes.{Rose}
 use Rattle.cgs_io.specs.Streams.{AppendsPrefix}
-use Rattle.cgs_text.specs.declared.problem.Problem.{Problem}
-use Rattle.cgs_text.specs.Reading.{problem_spelled}
-use Rattle.cgs_program.specs.declared.words.Plan.{Plan}
-use Rattle.cgs_program.specs.declared.words.WordFault.{WordFault}
+use Rattle.cgs_problem.specs.declared.problem.Problem.{Problem}
+use Rattle.cgs_problem.specs.Reading.{problem_spelled}
+use Rattle.cgs_words.specs.declared.plan.Plan.{Plan}
+use Rattle.cgs_words.specs.declared.plan.WordFault.{WordFault}
 use Rattle.cgs_program.specs.declared.status.Status.{Status}
 use Rattle.cgs_program.specs.declared.status.Status.TheVariants as status
 use Rattle.cgs_program.specs.declared.reply.Reply.{Reply}
 use Rattle.cgs_program.specs.declared.reply.Halt.{Halt}
 use Rattle.cgs_program.specs.declared.reply.Halt.TheVariants as halt
-use Rattle.cgs_program.specs.Words.{plan_of}
+use Rattle.cgs_words.specs.Words.{plan_of}
 use Rattle.cgs_program.specs.Due.{Got, nothing_read, whole, too_long, limit, own_problem, IsDueFor, IsAnswer}
 
 -- what a source or a sink tells at a moment: its bytes, if it tells them, and its count of faults

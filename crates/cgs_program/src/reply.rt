@@ -1,18 +1,20 @@
 //! The text that is due, and the status with which it is written.
 
 ghost use Rattle.std.specs.Prelude.{◌≡◌, ◌≤◌, length};
-ghost use Rattle.cgs_text.specs.Problems.{IsProblem};
-ghost use Rattle.cgs_text.specs.Printing.{fault_text};
-ghost use Rattle.cgs_program.specs.declared.words.Command.TheVariants.{Check};
+ghost use Rattle.cgs_problem.specs.Problems.{IsProblem};
+ghost use Rattle.cgs_print.specs.Printing.{fault_text};
+ghost use Rattle.cgs_words.specs.declared.plan.Command.TheVariants.{Check};
 ghost use Rattle.cgs_program.specs.declared.status.Status.TheVariants.{Text};
 ghost use Rattle.cgs_program.specs.Due.{IsAnswer, IsAnswerOf, IsDueTo, whole, too_long, limit};
 ghost use Rattle.cgs_program.specs.Run.{RepliesTo, Makes};
 
 use crate::status::Status;
-use crate::words::{Command, Plan};
 use cgs_io::{ReadFault, Reading, Source, read_all};
 use cgs_list::ItemList;
-use cgs_text::{Problem, Text, TextFault, TextRefused, fault_text, problem_text, read_problem};
+use cgs_print::{fault_text, problem_text};
+use cgs_problem::{Problem, Text, TextFault};
+use cgs_text::{TextRefused, read_problem};
+use cgs_words::{Command, Plan};
 use std::alloc::{AllocError, Global};
 
 /// The most bytes of an input.

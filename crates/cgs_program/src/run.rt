@@ -6,8 +6,8 @@ ghost use Rattle.cgs_program.specs.Run.{IsRun, Completes, Finishes};
 
 use crate::reply::{Halt, make_reply};
 use crate::status::Status;
-use crate::words::{WordFault, read_words};
 use cgs_io::{Failed, Sink, Source, WordList, write_all};
+use cgs_words::{WordFault, read_words};
 use std::alloc::Global;
 
 /// Does what the words ask for with what the source gives, writes the text due into the sink, and says how it ended.
@@ -75,5 +75,7 @@ fn fault_line(fault: WordFault) -> &'static [u8]
         WordFault::NoWord => b"fault words none\n",
         WordFault::Command => b"fault words command\n",
         WordFault::Option => b"fault words option\n",
+        WordFault::Repeat => b"fault words repeat\n",
+        WordFault::Value => b"fault words value\n",
     }
 }

@@ -65,10 +65,10 @@ fn checks(rt: HostRuntime) -> Result<(), Fail> {
         ),
         (
             b"field 7\nparameters a\nvariables x\norder lex\npoly x-1\nend\n",
-            b"fault line 0 form\n",
-            Status::Text,
+            b"field 7\nparameters a\nvariables x\norder lex\npoly x+6\nend\n",
+            Status::Done,
         ),
-        (b"", b"fault line 0 form\n", Status::Text),
+        (b"", b"fault line 1 end\n", Status::Text),
     ];
     for (input, written, wanted) in rows {
         let input = Vec::from_slice(alloc, input)?;
@@ -114,7 +114,7 @@ fn refuses_words_and_tells_what_failed(rt: HostRuntime) -> Result<(), Fail> {
 fn reads_up_to_the_limit(rt: HostRuntime) -> Result<(), Fail> {
     let alloc = rt.alloc();
     let rows = [
-        (1048576, b"fault line 0 form\n".as_slice()),
+        (1048576, b"fault line 2 end\n".as_slice()),
         (1048577, b"fault line 0 long\n"),
     ];
     for (bytes, written) in rows {

@@ -1,36 +1,37 @@
--- A text and the line feed that ends it.
-use Rattle.std.proofs.Common.{◌≡◌, ℕ, false, List, [], ◌∷◌, ◌++◌, Option, Some, None, Result, Ok, Err, refl, sym, ap, ◌∙◌, eqb}
-use Rattle.std.proofs.lemmas.Bool.{ne_eqb}
-use Rattle.std.specs.Option.{option_map, ok_or}
-use Rattle.cgs_text.specs.declared.problem.Problem.{Problem}
-use Rattle.cgs_text.specs.declared.fault.TextRefused.{TextRefused}
-use Rattle.cgs_text.specs.declared.fault.TextRefused.TheVariants.{Fault, OutOfMemory}
-use Rattle.cgs_text.specs.Faults.{Gives, not_in_form}
-use Rattle.cgs_text.specs.Lexemes.{pieces}
-use Rattle.cgs_text.specs.Reading.{without_end, problem_said, problem_spelled, Reads}
+-- A text line by line.
+use Rattle.std.proofs.Common.{◌≡◌, ℕ, ◌+◌, List, [], ◌∷◌, length, Result, Ok, Err, refl, sym, ap, ◌∙◌, arith}
+use Rattle.cgs_problem.specs.declared.problem.Problem.{Problem}
+use Rattle.cgs_problem.specs.declared.fault.TextFault.{TextFault}
+use Rattle.cgs_problem.specs.Drafts.{Draft}
+use Rattle.cgs_problem.specs.Lines.{lines_of, without_cr}
+use Rattle.cgs_text.specs.declared.refusal.LineRefused.{LineRefused}
+use Rattle.cgs_text.specs.declared.refusal.LineRefused.TheVariants.{Kind, OutOfMemory}
+use Rattle.cgs_text.specs.Answers.{IsRefusal, refused_at}
+use Rattle.cgs_text.specs.Drafts.{Reads}
+use Rattle.cgs_problem.specs.Reading.{taken, read_from, ended_at, at_line}
 
-end_dropped : (text : List ℕ) → without_end (text ++ 10 ∷ []) ≡ Some text
-end_dropped [] = refl
-end_dropped (byte ∷ []) = refl
-end_dropped (byte ∷ next ∷ text) = ap (option_map (λ rest. byte ∷ rest)) (end_dropped (next ∷ text))
+step : (number : ℕ) (d : Draft) (line : List ℕ) (lines pieces : List (List ℕ)) → lines ≡ line ∷ pieces → read_from number d lines ≡ at_line number (taken d (without_cr line)) (λ next. read_from (number + 1) next pieces)
+unfolding read_from
+step number d line lines pieces e = rw e refl
 
-no_end : (text : List ℕ) (last : ℕ) → (last ≡ 10 → ⊥) → without_end (text ++ last ∷ []) ≡ None
-no_end [] last h = let e : eqb last 10 ≡ false = ne_eqb last 10 h in rw e refl
-no_end (byte ∷ []) last h = let e : eqb last 10 ≡ false = ne_eqb last 10 h in rw e refl
-no_end (byte ∷ next ∷ text) last h = ap (option_map (λ rest. byte ∷ rest)) (no_end (next ∷ text) last h)
+-- a line was taken
+pub goes_on : (number : ℕ) (d next : Draft) (line : List ℕ) (lines pieces : List (List ℕ)) (total : Result Problem TextFault) → lines ≡ line ∷ pieces → taken d (without_cr line) ≡ Ok next
+    → read_from number d lines ≡ total → read_from (number + 1) next pieces ≡ total
+goes_on number d next line lines pieces total e t so_far =
+    sym (step number d line lines pieces e ∙ ap (λ r. at_line number r (λ next. read_from (number + 1) next pieces)) t) ∙ so_far
 
--- a call that gave what was said reads the text
-reads : (result : Result Problem TextRefused) (said : Option Problem) → Gives result said → Reads result (ok_or said not_in_form)
-reads (Ok problem) said h = ap (λ o. ok_or o not_in_form) h
-reads (Err (Fault fault)) said h = ap (λ o. ok_or o not_in_form) h.0 ∙ ap (λ f. Err f) (sym h.1)
-reads (Err OutOfMemory) said h = tt
+-- a line was refused
+pub is_refused : (number : ℕ) (d : Draft) (line : List ℕ) (refused : LineRefused) (lines pieces : List (List ℕ)) (total : Result Problem TextFault) → lines ≡ line ∷ pieces → IsRefusal refused (taken d (without_cr line))
+    → read_from number d lines ≡ total → Reads (Err (refused_at number refused)) total
+is_refused number d line (Kind kind) lines pieces total e t so_far =
+    sym so_far ∙ step number d line lines pieces e ∙ ap (λ r. at_line number r (λ next. read_from (number + 1) next pieces)) t
+is_refused number d line OutOfMemory lines pieces total e t so_far = tt
 
-pub reads_lines : (bytes text : List ℕ) (last : ℕ) (result : Result Problem TextRefused) → bytes ≡ text ++ last ∷ [] → last ≡ 10 → Gives result (problem_said (pieces 10 text)) → Reads result (problem_spelled bytes)
-reads_lines bytes text last result e l h =
-    let dropped : without_end bytes ≡ Some text = ap without_end (e ∙ ap (λ b. text ++ b ∷ []) l) ∙ end_dropped text in
-    rw dropped (reads result (problem_said (pieces 10 text)) h)
+-- no line is left
+pub ends : (number : ℕ) (d : Draft) (lines : List (List ℕ)) (total : Result Problem TextFault) → lines ≡ [] → read_from number d lines ≡ total → ended_at number d d.stage ≡ total
+unfolding read_from
+ends number d lines total e so_far = rw e at so_far
 
-pub spells_nothing : (bytes text : List ℕ) (last : ℕ) → bytes ≡ text ++ last ∷ [] → (last ≡ 10 → ⊥) → problem_spelled bytes ≡ Err not_in_form
-spells_nothing bytes text last e h =
-    let none : without_end bytes ≡ None = ap without_end e ∙ no_end text last h in
-    rw none refl
+pub no_lines : (bytes : List ℕ) → length bytes ≡ 0 → lines_of bytes ≡ []
+no_lines [] e = refl
+no_lines (byte ∷ bytes) e = absurd (omega arith)

@@ -1,145 +1,217 @@
--- Terms that are gathered in two flat lists, and their sum by halves.
-use Rattle.std.proofs.Common.{◌≡◌, ℕ, zero, suc, ◌+◌, ◌-◌, ◌*◌, ◌<◌, ◌≤◌, List, [], ◌∷◌, ◌++◌, length, take, drop, Option, Some, None, refl, sym, ap, ◌∙◌, arith, append_assoc}
-use Rattle.std.proofs.lemmas.List.{length-append, length-take, length-drop, take_all, take-append-drop, append-nil}
-use Rattle.std.proofs.Math.Nat.{mul-le-mul_right}
+-- Products one after the other, and the terms that are gathered of them.
+use Rattle.std.proofs.Common.{◌≡◌, ℕ, zero, suc, ◌-◌, ◌*◌, ◌%◌, ◌<◌, ◌≤◌, List, [], ◌∷◌, ◌++◌, length, take, replicate, Some, None, Result, Ok, Err, refl, sym, ap, ◌∙◌, arith, append_assoc}
+use Rattle.std.specs.Prelude.{sum}
+use Rattle.std.proofs.Math.Nat.{mod-eq_of_lt}
+use Rattle.std.proofs.lemmas.List.{length-append, take_all, length-replicate}
 use Rattle.std.specs.List.{AllByRecursion}
-use Rattle.std.specs.Option.{option_map}
-use Rattle.cgs_exps.specs.Monomial.{degree}
+use Rattle.cgs_field.proofs.PrimeLemmas.{modulus_prime}
 use Rattle.cgs_poly.specs.declared.ring.Ring.{Ring}
-use Rattle.cgs_poly.specs.Polynomial.{Term, term, places, canonical, IsOfRing, HasLowDegrees, greatest_degree}
+use Rattle.cgs_poly.specs.Polynomial.{Term, term, places, IsRing, HasLowDegrees}
 use Rattle.cgs_poly.specs.Flat.{terms_of}
-use Rattle.cgs_poly.proofs.FlatLemmas.{terms_append, terms_take, terms_drop}
-use Rattle.cgs_poly.proofs.SumLemmas.{alike_append}
-use Rattle.cgs_poly.proofs.CanonicalLemmas.{canonical_same, canonical_alike, is_canonical, canonical_of_ring, append_of_ring}
-use Rattle.cgs_text.specs.Polynomials.{with_first, product_said, products_said, AreTerms}
+use Rattle.cgs_poly.proofs.FlatLemmas.{terms_append}
+use Rattle.cgs_tokens.specs.declared.token.Token.{Token}
+use Rattle.cgs_tokens.specs.declared.token.TokenKind.{TokenKind}
+use Rattle.cgs_tokens.specs.declared.token.TokenKind.TheVariants as kind
+use Rattle.cgs_problem.specs.declared.fault.TextKind.{TextKind}
+use Rattle.cgs_problem.specs.declared.fault.TextKind.TheVariants as fault
+use Rattle.cgs_problem.specs.Lexemes.{said_by, text_of, lexemes_of}
+use Rattle.cgs_problem.specs.Sums.{Reader, product, follow, with_term, terms_said}
+use Rattle.cgs_text.specs.declared.terms.Terms.{Terms}
+use Rattle.cgs_text.specs.declared.refusal.LineRefused.{LineRefused}
+use Rattle.cgs_text.specs.declared.refusal.LineRefused.TheVariants.{Kind, OutOfMemory}
+use Rattle.cgs_text.specs.Answers.{IsRefusal}
+use Rattle.cgs_text.specs.Scopes.{IsReader, IsProduct, HasTermsFor}
+use Rattle.cgs_text.specs.Terms.{signed_one, terms_in, AreTerms, CanBeSummed}
+
+-- terms that were read, before what is still read
+abbrev pub with_front : List Term → Result (List Term) TextKind → Result (List Term) TextKind
+with_front front (Ok terms) = Ok (front ++ terms)
+with_front front (Err kind) = Err kind
+
+regroup : (front : List Term) (t : Term) (rest : Result (List Term) TextKind) → with_front front (with_term t rest) ≡ with_front (front ++ t ∷ []) rest
+regroup front t (Ok terms) = ap (λ (f : List Term). Ok f) (sym (append_assoc front (t ∷ []) terms))
+regroup front t (Err kind) = refl
+
+-- the empty product with a number
+abbrev pub start : Reader → ℕ → Term
+start reader c = term c (replicate (places reader.ring) 0)
+
+-- what a call left before it, where a factor was read
+pub record Follows (reader : Reader) (front : List Term) (line : List ℕ) (t : Term) (tokens : List Token) (total : Result (List Term) TextKind) : Type 0 where
+  pub so_far : with_front front (follow reader t (lexemes_of line tokens)) ≡ total
+
+pub follows : (reader : Reader) (front : List Term) (line : List ℕ) (t next : Term) (tokens after : List Token) (total : Result (List Term) TextKind) → product reader t (lexemes_of line tokens) ≡ follow reader next (lexemes_of line after)
+    → with_front front (product reader t (lexemes_of line tokens)) ≡ total → Follows reader front line next after total
+follows reader front line t next tokens after total e so_far = record { so_far = ap (with_front front) (sym e) ∙ so_far }
+
+-- the product goes on
+pub goes_on : (reader : Reader) (front : List Term) (line : List ℕ) (t : Term) (sign : Token) (after others : List Token) (total : Result (List Term) TextKind) → Follows reader front line t after total → after ≡ sign ∷ others → sign.kind ≡ kind.Times
+    → with_front front (product reader t (lexemes_of line others)) ≡ total
+unfolding follow
+goes_on reader front line t sign after others total f e k =
+    let step : follow reader t (lexemes_of line after) ≡ product reader t (lexemes_of line others) = ap (λ ts. follow reader t (lexemes_of line ts)) e ∙ by_kind sign.kind (text_of line sign) k in
+    sym (ap (with_front front) step) ∙ f.so_far
+  where
+    by_kind : (k : TokenKind) (text : List ℕ) → k ≡ kind.Times → follow reader t (said_by k text ∷ lexemes_of line others) ≡ product reader t (lexemes_of line others)
+    by_kind k text e = rw e refl
+
+-- the next product begins
+pub begins : (reader : Reader) (front : List Term) (line : List ℕ) (t : Term) (sign : Token) (c : ℕ) (after others : List Token) (total : Result (List Term) TextKind) → Follows reader front line t after total → after ≡ sign ∷ others → Some c ≡ signed_one reader.ring.modulus sign.kind
+    → with_front (front ++ t ∷ []) (product reader (start reader c) (lexemes_of line others)) ≡ total
+unfolding follow
+begins reader front line t sign c after others total f e k =
+    let step : follow reader t (lexemes_of line after) ≡ with_term t (product reader (start reader c) (lexemes_of line others)) = ap (λ ts. follow reader t (lexemes_of line ts)) e ∙ by_kind sign.kind (text_of line sign) k in
+    sym (ap (with_front front) step ∙ regroup front t (product reader (start reader c) (lexemes_of line others))) ∙ f.so_far
+  where
+    by_kind : (k : TokenKind) (text : List ℕ) → Some c ≡ signed_one reader.ring.modulus k → follow reader t (said_by k text ∷ lexemes_of line others) ≡ with_term t (product reader (start reader c) (lexemes_of line others))
+    by_kind kind.Plus text h = let e : c ≡ 1 = cc in rw e refl
+    by_kind kind.Minus text h = let e : c ≡ reader.ring.modulus - 1 = cc in rw e refl
+    by_kind kind.Name text h = absurd (cc)
+    by_kind kind.Number text h = absurd (cc)
+    by_kind kind.Times text h = absurd (cc)
+    by_kind kind.Power text h = absurd (cc)
+
+-- no other token may follow
+pub cannot_follow : (reader : Reader) (front : List Term) (line : List ℕ) (t : Term) (sign : Token) (after others : List Token) (total : Result (List Term) TextKind) → Follows reader front line t after total → after ≡ sign ∷ others → (sign.kind ≡ kind.Times → ⊥) → None ≡ signed_one reader.ring.modulus sign.kind
+    → total ≡ Err fault.Syntax
+unfolding follow
+cannot_follow reader front line t sign after others total f e other k =
+    let step : follow reader t (lexemes_of line after) ≡ Err fault.Syntax = ap (λ ts. follow reader t (lexemes_of line ts)) e ∙ by_kind sign.kind (text_of line sign) other k in
+    sym f.so_far ∙ ap (with_front front) step
+  where
+    by_kind : (k : TokenKind) (text : List ℕ) → (k ≡ kind.Times → ⊥) → None ≡ signed_one reader.ring.modulus k → follow reader t (said_by k text ∷ lexemes_of line others) ≡ Err fault.Syntax
+    by_kind kind.Name text other h = refl
+    by_kind kind.Number text other h = refl
+    by_kind kind.Power text other h = refl
+    by_kind kind.Times text other h = absurd (other refl)
+    by_kind kind.Plus text other h = absurd (cc)
+    by_kind kind.Minus text other h = absurd (cc)
+
+-- the line ends
+pub ends : (reader : Reader) (front : List Term) (line : List ℕ) (t : Term) (after : List Token) (total : Result (List Term) TextKind) → Follows reader front line t after total → length after ≡ 0 → total ≡ Ok (front ++ t ∷ [])
+unfolding follow
+ends reader front line t [] total f e = sym f.so_far
+ends reader front line t (token ∷ after) total f e = absurd (omega arith)
+
+-- a factor was refused
+pub refused_there : (front : List Term) (said total : Result (List Term) TextKind) (refused : LineRefused) → IsRefusal refused said → with_front front said ≡ total → IsRefusal refused total
+refused_there front said total (Kind kind) h so_far = sym so_far ∙ ap (with_front front) h
+refused_there front said total OutOfMemory h so_far = tt
+
+-- before the first product
+
+pub signed_start : (reader : Reader) (line : List ℕ) (sign : Token) (c : ℕ) (tokens others : List Token) → tokens ≡ sign ∷ others → Some c ≡ signed_one reader.ring.modulus sign.kind
+    → terms_said reader (lexemes_of line tokens) ≡ product reader (start reader c) (lexemes_of line others)
+signed_start reader line sign c tokens others e k = ap (λ ts. terms_said reader (lexemes_of line ts)) e ∙ by_kind sign.kind (text_of line sign) k
+  where
+    by_kind : (k : TokenKind) (text : List ℕ) → Some c ≡ signed_one reader.ring.modulus k → terms_said reader (said_by k text ∷ lexemes_of line others) ≡ product reader (start reader c) (lexemes_of line others)
+    by_kind kind.Plus text h = let e : c ≡ 1 = cc in rw e refl
+    by_kind kind.Minus text h = let e : c ≡ reader.ring.modulus - 1 = cc in rw e refl
+    by_kind kind.Name text h = absurd (cc)
+    by_kind kind.Number text h = absurd (cc)
+    by_kind kind.Times text h = absurd (cc)
+    by_kind kind.Power text h = absurd (cc)
+
+pub unsigned_start : (reader : Reader) (line : List ℕ) (first : Token) (tokens others : List Token) → tokens ≡ first ∷ others → None ≡ signed_one reader.ring.modulus first.kind
+    → terms_said reader (lexemes_of line tokens) ≡ product reader (start reader 1) (lexemes_of line tokens)
+unsigned_start reader line first tokens others e k = rw e (by_kind first.kind (text_of line first) k)
+  where
+    by_kind : (k : TokenKind) (text : List ℕ) → None ≡ signed_one reader.ring.modulus k → terms_said reader (said_by k text ∷ lexemes_of line others) ≡ product reader (start reader 1) (said_by k text ∷ lexemes_of line others)
+    by_kind kind.Plus text h = absurd (cc)
+    by_kind kind.Minus text h = absurd (cc)
+    by_kind kind.Name text h = refl
+    by_kind kind.Number text h = refl
+    by_kind kind.Times text h = refl
+    by_kind kind.Power text h = refl
+
+pub nothing_said : (reader : Reader) (line : List ℕ) (tokens : List Token) → length tokens ≡ 0 → terms_said reader (lexemes_of line tokens) ≡ Err fault.Syntax
+unfolding product
+nothing_said reader line [] e = refl
+nothing_said reader line (t ∷ tokens) e = absurd (omega arith)
+
+-- 1 is below a modulus
+pub one_small : (ring : Ring) → IsRing ring → 1 % ring.modulus ≡ 1
+one_small ring h = mod-eq_of_lt (modulus_prime ring.modulus h.modulus).above_one
+
+pub minus_one_small : (ring : Ring) → IsRing ring → (ring.modulus - 1 % ring.modulus) % ring.modulus ≡ ring.modulus - 1
+minus_one_small ring h =
+    let e : ring.modulus - 1 % ring.modulus ≡ ring.modulus - 1 = ap (λ n. ring.modulus - n) (one_small ring h) in
+    let above = (modulus_prime ring.modulus h.modulus).above_one in
+    let lt : ring.modulus - 1 < ring.modulus = omega arith in rw e (mod-eq_of_lt lt)
+
+-- products within the limits
+
+no_degree : (n : ℕ) → sum (replicate {A = ℕ} n 0) ≡ 0
+no_degree zero = refl
+no_degree (suc n) = no_degree n
+
+take_zeros : (k n : ℕ) → k ≤ n → take k (replicate {A = ℕ} n 0) ≡ replicate {A = ℕ} k 0
+take_zeros zero n le = refl
+take_zeros (suc k) zero le = absurd (omega arith)
+take_zeros (suc k) (suc n) le = ap (λ (m : List ℕ). 0 ∷ m) (take_zeros k n (omega arith))
+
+pub is_start : (reader : Reader) (c : ℕ) → IsReader reader → c < reader.ring.modulus → IsProduct reader (start reader c)
+is_start reader c h below = record {
+  below = below;
+  places = length-replicate (places reader.ring) 0;
+  monomial = record { low = omega (arith, no_degree (places reader.ring)); free = take_zeros reader.barred (places reader.ring) h.barred };
+}
+
+pub signed_below : (ring : Ring) (c : ℕ) (k : TokenKind) → IsRing ring → Some c ≡ signed_one ring.modulus k → c < ring.modulus
+signed_below ring c kind.Plus h e = let above = (modulus_prime ring.modulus h.modulus).above_one in let one : c ≡ 1 = cc in omega arith
+signed_below ring c kind.Minus h e = let above = (modulus_prime ring.modulus h.modulus).above_one in let one : c ≡ ring.modulus - 1 = cc in omega arith
+signed_below ring c kind.Name h e = absurd (cc)
+signed_below ring c kind.Number h e = absurd (cc)
+signed_below ring c kind.Times h e = absurd (cc)
+signed_below ring c kind.Power h e = absurd (cc)
 
 -- gathering
 
--- terms that were read, before what is still read
-abbrev pub with_front : List Term → Option (List Term) → Option (List Term)
-with_front front said = option_map (λ terms. front ++ terms) said
-
-regroup : (front : List Term) (t : Term) (said : Option (List Term)) → with_front front (with_first (Some t) said) ≡ with_front (front ++ t ∷ []) said
-regroup front t None = refl
-regroup front t (Some terms) = ap (λ (f : List Term). Some f) (sym (append_assoc front (t ∷ []) terms))
-
-pub goes_on : (ring : Ring) (names : List (List ℕ)) (front : List Term) (t : Term) (product : List ℕ) (products : List (List ℕ)) (total : Option (List Term)) → product_said ring names product ≡ Some t
-    → with_front front (products_said ring names (product ∷ products)) ≡ total → with_front (front ++ t ∷ []) (products_said ring names products) ≡ total
-goes_on ring names front t product products total e so_far =
-    let step : products_said ring names (product ∷ products) ≡ with_first (Some t) (products_said ring names products) = ap (λ said. with_first said (products_said ring names products)) e in
-    sym (ap (with_front front) step ∙ regroup front t (products_said ring names products)) ∙ so_far
-
-pub fails : (ring : Ring) (names : List (List ℕ)) (front : List Term) (product : List ℕ) (products : List (List ℕ)) (total : Option (List Term)) → product_said ring names product ≡ None
-    → with_front front (products_said ring names (product ∷ products)) ≡ total → total ≡ None
-fails ring names front product products total e so_far =
-    let step : products_said ring names (product ∷ products) ≡ None = ap (λ said. with_first said (products_said ring names products)) e in
-    sym so_far ∙ ap (with_front front) step
-
-pub ends : (front : List Term) (total : Option (List Term)) → with_front front (Some []) ≡ total → total ≡ Some front
-ends front total so_far = sym so_far ∙ ap (λ (f : List Term). Some f) (append-nil front)
-
--- one more term
-
-pub terms_push : (ring : Ring) (c : ℕ) (m cs es : List ℕ) → AreTerms ring cs es → length m ≡ places ring → terms_of (places ring) (cs ++ c ∷ []) (es ++ m) ≡ terms_of (places ring) cs es ++ term c m ∷ []
+terms_push : (ring : Ring) (c : ℕ) (m cs es : List ℕ) → length es ≡ length cs * places ring → length m ≡ places ring → terms_of (places ring) (cs ++ c ∷ []) (es ++ m) ≡ terms_of (places ring) cs es ++ term c m ∷ []
 terms_push ring c m cs es h l =
     let whole : take (places ring) m ≡ m = take_all (places ring) m (omega arith) in
-    terms_append (places ring) cs (c ∷ []) es m h.flat ∙ ap (λ n. terms_of (places ring) cs es ++ term c n ∷ []) whole
+    terms_append (places ring) cs (c ∷ []) es m h ∙ ap (λ n. terms_of (places ring) cs es ++ term c n ∷ []) whole
 
-all_push : (P : ℕ → Type 0) (xs : List ℕ) (y : ℕ) → AllByRecursion P xs → P y → AllByRecursion P (xs ++ y ∷ [])
+pub all_push : {A : Type 0} (P : A → Type 0) (xs : List A) (y : A) → AllByRecursion P xs → P y → AllByRecursion P (xs ++ y ∷ [])
 all_push P [] y h p = (p, tt)
 all_push P (x ∷ xs) y h p = (h.0, all_push P xs y h.1 p)
 
-low_append : (f g : List Term) → HasLowDegrees f → HasLowDegrees g → HasLowDegrees (f ++ g)
-low_append [] g h k = k
-low_append (x ∷ f) g h k = (h.0, low_append f g h.1 k)
+-- one more term was put at the end
+pub pushed : (reader : Reader) (old new : Terms) (t : Term) → AreTerms reader old → IsProduct reader t → new.coefficients.items ≡ old.coefficients.items ++ t.coefficient ∷ [] → new.exponents.items ≡ old.exponents.items ++ t.exponents
+    → terms_in reader.ring new ≡ terms_in reader.ring old ++ t ∷ []
+pushed reader old new t h p cs es = rw (cs, es) (terms_push reader.ring t.coefficient t.exponents old.coefficients.items old.exponents.items h.flat p.places)
 
-pub still_terms : (ring : Ring) (c : ℕ) (m cs es : List ℕ) → AreTerms ring cs es → length m ≡ places ring → c < ring.modulus → degree m ≤ greatest_degree → AreTerms ring (cs ++ c ∷ []) (es ++ m)
-still_terms ring c m cs es h l below low = record {
-  flat = rw (length-append es m, length-append cs (c ∷ [])) (omega (arith, h.flat, l));
-  below = all_push (λ c. c < ring.modulus) cs c h.below below;
-  low = rw (terms_push ring c m cs es h l) (low_append (terms_of (places ring) cs es) (term c m ∷ []) h.low (low, tt));
+pub still_terms : (reader : Reader) (old new : Terms) (t : Term) → AreTerms reader old → IsProduct reader t → new.coefficients.items ≡ old.coefficients.items ++ t.coefficient ∷ [] → new.exponents.items ≡ old.exponents.items ++ t.exponents
+    → AreTerms reader new
+still_terms reader old new t h p cs es = record {
+  flat = rw (cs, es, length-append old.exponents.items t.exponents, length-append old.coefficients.items (t.coefficient ∷ [])) (omega (arith, h.flat, p.places));
+  products = rw (pushed reader old new t h p cs es) (all_push (IsProduct reader) (terms_in reader.ring old) t h.products p);
 }
 
-pub no_terms : (ring : Ring) → AreTerms ring [] []
-no_terms ring = record { flat = omega arith; below = tt; low = tt }
+pub no_terms : (reader : Reader) (terms : Terms) → terms.coefficients.items ≡ [] → terms.exponents.items ≡ [] → AreTerms reader terms
+no_terms reader terms cs es = record { flat = rw (cs, es) (omega arith); products = rw cs tt }
 
--- halves
+pub none_before : (reader : Reader) (terms : Terms) (said : Result (List Term) TextKind) → terms.coefficients.items ≡ [] → terms.exponents.items ≡ [] → with_front (terms_in reader.ring terms) said ≡ said
+none_before reader terms (Ok f) cs es = rw cs refl
+none_before reader terms (Err kind) cs es = refl
 
-all_take : (P : ℕ → Type 0) (n : ℕ) (xs : List ℕ) → AllByRecursion P xs → AllByRecursion P (take n xs)
-all_take P zero xs h = tt
-all_take P (suc n) [] h = tt
-all_take P (suc n) (x ∷ xs) h = (h.0, all_take P n xs h.1)
+-- what products are
 
-all_drop : (P : ℕ → Type 0) (n : ℕ) (xs : List ℕ) → AllByRecursion P xs → AllByRecursion P (drop n xs)
-all_drop P zero xs h = h
-all_drop P (suc n) [] h = tt
-all_drop P (suc n) (x ∷ xs) h = all_drop P n xs h.1
+all_below : (reader : Reader) (cs es : List ℕ) → AllByRecursion (IsProduct reader) (terms_of (places reader.ring) cs es) → AllByRecursion (λ c. c < reader.ring.modulus) cs
+all_below reader [] es h = tt
+all_below reader (c ∷ cs) es h = (h.0.below, all_below reader cs _ h.1)
 
-low_take : (n : ℕ) (f : List Term) → HasLowDegrees f → HasLowDegrees (take n f)
-low_take zero f h = tt
-low_take (suc n) [] h = tt
-low_take (suc n) (x ∷ f) h = (h.0, low_take n f h.1)
+all_low : (reader : Reader) (f : List Term) → reader.most ≤ 32767 → AllByRecursion (IsProduct reader) f → HasLowDegrees f
+all_low reader [] le h = tt
+all_low reader (t ∷ f) le h = (omega (arith, h.0.monomial.low), all_low reader f le h.1)
 
-low_drop : (n : ℕ) (f : List Term) → HasLowDegrees f → HasLowDegrees (drop n f)
-low_drop zero f h = h
-low_drop (suc n) [] h = tt
-low_drop (suc n) (x ∷ f) h = low_drop n f h.1
-
--- the exponents of the first terms are within those of all
-pub half_fits : (ring : Ring) (cs es : List ℕ) (n : ℕ) → AreTerms ring cs es → n ≤ length cs → n * places ring ≤ length es
-half_fits ring cs es n h le = omega (arith, mul-le-mul_right (places ring) le, h.flat)
-
-pub first_half : (ring : Ring) (cs es : List ℕ) (n : ℕ) → AreTerms ring cs es → n ≤ length cs → AreTerms ring (take n cs) (take (n * places ring) es)
-first_half ring cs es n h le = record {
-  flat = let len : length (take n cs) ≡ n = omega (arith, length-take n cs) in rw len (omega (arith, length-take (n * places ring) es, half_fits ring cs es n h le));
-  below = all_take (λ c. c < ring.modulus) n cs h.below;
-  low = rw (terms_take (places ring) n cs es h.flat) (low_take n (terms_of (places ring) cs es) h.low);
+pub can_be_summed : (reader : Reader) (terms : Terms) → IsReader reader → AreTerms reader terms → CanBeSummed reader.ring terms.coefficients.items terms.exponents.items
+can_be_summed reader terms r h = record {
+  flat = h.flat;
+  below = all_below reader terms.coefficients.items terms.exponents.items h.products;
+  low = all_low reader (terms_in reader.ring terms) r.most h.products;
 }
 
-flat_rest : (n m l p : ℕ) → l ≡ m * p → n ≤ m → l - n * p ≡ (m - n) * p
-flat_rest n m l p e le =
-    let k : ℕ = m - n in
-    let s : m ≡ n + k = omega arith in
-    let t : m * p ≡ n * p + k * p = ap (λ x. x * p) s ∙ times_sum n k p in
-    omega (arith, t, e)
-  where
-    times_sum : (n k p : ℕ) → (n + k) * p ≡ n * p + k * p
-    times_sum n k p = omega arith
-
-pub second_half : (ring : Ring) (cs es : List ℕ) (n : ℕ) → AreTerms ring cs es → n ≤ length cs → AreTerms ring (drop n cs) (drop (n * places ring) es)
-second_half ring cs es n h le = record {
-  flat = rw (length-drop (n * places ring) es, length-drop n cs) (flat_rest n (length cs) (length es) (places ring) h.flat le);
-  below = all_drop (λ c. c < ring.modulus) n cs h.below;
-  low = rw (terms_drop (places ring) n cs es) (low_drop n (terms_of (places ring) cs es) h.low);
-}
-
-of_ring : (ring : Ring) (cs es : List ℕ) → length es ≡ length cs * places ring → IsOfRing ring (terms_of (places ring) cs es)
-of_ring ring [] es h = tt
-of_ring ring (c ∷ cs) es h = (omega (arith, length-take (places ring) es), of_ring ring cs (drop (places ring) es) (omega (arith, length-drop (places ring) es)))
-
--- the sum of the sums of two lists is the sum of both
-canonical_parts : (ring : Ring) (f g : List Term) → 0 < ring.modulus → IsOfRing ring f → IsOfRing ring g → canonical ring (canonical ring f ++ canonical ring g) ≡ canonical ring (f ++ g)
-canonical_parts ring f g pos h k =
-    let hf = canonical_of_ring ring (canonical ring f) (is_canonical ring f pos h) in
-    let kg = canonical_of_ring ring (canonical ring g) (is_canonical ring g pos k) in
-    canonical_same ring (canonical ring f ++ canonical ring g) (f ++ g) pos (append_of_ring ring _ _ hf kg) (append_of_ring ring f g h k)
-    (alike_append (canonical_alike ring f pos h) (canonical_alike ring g pos k))
-
-pub halves : (ring : Ring) (cs es : List ℕ) (n : ℕ) (f g s : List Term) → 0 < ring.modulus → AreTerms ring cs es → n ≤ length cs
-    → f ≡ canonical ring (terms_of (places ring) (take n cs) (take (n * places ring) es)) → g ≡ canonical ring (terms_of (places ring) (drop n cs) (drop (n * places ring) es))
-    → s ≡ canonical ring (f ++ g) → s ≡ canonical ring (terms_of (places ring) cs es)
-halves ring cs es n f g s pos h le ef eg es_is =
-    let p : ℕ = places ring in
-    let a = terms_of p (take n cs) (take (n * p) es) in
-    let b = terms_of p (drop n cs) (drop (n * p) es) in
-    let parts : a ++ b ≡ terms_of p cs es = rw (terms_take p n cs es h.flat, terms_drop p n cs es) (take-append-drop n (terms_of p cs es)) in
-    let fa = of_ring ring (take n cs) (take (n * p) es) (first_half ring cs es n h le).flat in
-    let gb = of_ring ring (drop n cs) (drop (n * p) es) (second_half ring cs es n h le).flat in
-    let both : f ++ g ≡ canonical ring a ++ canonical ring b = cc in
-    es_is ∙ ap (canonical ring) both ∙ canonical_parts ring a b pos fa gb ∙ ap (canonical ring) parts
-
-pub same_terms : (ring : Ring) (cs es ds ns : List ℕ) → ds ≡ cs → ns ≡ es → AreTerms ring cs es → AreTerms ring ds ns
-same_terms ring cs es ds ns p q h = rw (p, q) h
-
-pub same_sum : (ring : Ring) (cs es ds ns : List ℕ) (f : List Term) → ds ≡ cs → ns ≡ es → f ≡ canonical ring (terms_of (places ring) ds ns) → f ≡ canonical ring (terms_of (places ring) cs es)
-same_sum ring cs es ds ns f p q h = rw (p, q) at h
+pub have_terms : (reader : Reader) (f : List Term) → AllByRecursion (IsProduct reader) f → HasTermsFor reader f
+have_terms reader [] h = tt
+have_terms reader (t ∷ f) h = (h.0.monomial, have_terms reader f h.1)

@@ -1,6 +1,6 @@
-pub mod Faults
-pub mod Lexemes
-pub mod Problems
-pub mod Polynomials
-pub mod Reading
-pub mod Printing
+pub mod Answers
+pub mod Tokens
+pub mod Scopes
+pub mod Terms
+pub mod Drafts
+pub mod Words

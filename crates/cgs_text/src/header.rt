@@ -1,116 +1,135 @@
-//! The lines before the polynomials.
+//! The lines of the header.
 
-ghost use Rattle.std.specs.Prelude.{◌≡◌, ◌≤◌, ◌++◌, length, IfOk, bytes_eq};
-ghost use Rattle.std.specs.List.{list_any, IsDistinct};
-ghost use Rattle.std.specs.Option.{option_copied};
-ghost use Rattle.cgs_text.specs.declared.header.TheConstants.{MOST_NAMES};
-ghost use Rattle.cgs_text.specs.Faults.{Gives};
-ghost use Rattle.cgs_text.specs.Lexemes.{pieces};
-ghost use Rattle.cgs_text.specs.Reading.{argument_said, field_said, order_said, names_line, may_follow};
+ghost use Rattle.std.specs.Prelude.{◌≡◌, IfSome, OnOk};
+ghost use Rattle.std.specs.List.{AllByRecursion};
+ghost use Rattle.cgs_field.specs.Prime.{IsModulus};
+ghost use Rattle.cgs_problem.specs.Drafts as said;
+ghost use Rattle.cgs_problem.specs.Lexemes.{lexemes_of};
+ghost use Rattle.cgs_text.specs.Answers.{Gives};
+ghost use Rattle.cgs_text.specs.Drafts.{meaning, IsDraft, Takes};
+ghost use Rattle.cgs_text.specs.Tokens.{IsToken};
+ghost use Rattle.cgs_text.specs.Words.{only, modulus_of};
 
-use crate::fault::{NOT_IN_FORM, TextRefused};
-use crate::lexeme::{cut, is_name, number_of};
-use crate::problem::{NameList, Text};
-use crate::product::is_same;
+use crate::draft::{Draft, Stage};
+use crate::lexeme::{digits_value, text};
+use crate::names::{read_names, with_copies};
+use crate::refusal::LineRefused;
 use cgs_field::Modulus;
-use cgs_list::ItemList;
 use cgs_order::Kind;
-use std::alloc::{AllocError, Global};
+use cgs_problem::TextKind;
+use cgs_tokens::{Token, TokenKind};
+use std::alloc::Global;
 
-/// The most parameters, and the most variables.
-pub const MOST_NAMES: usize = 8;
-
-/// The one word after a keyword.
-pub(crate) fn argument<'a>(line: &'a [u8], keyword: &[u8]) -> Option<&'a [u8]>
-    ensures { option_copied result ≡ argument_said keyword.now (pieces 32 line.now) }
-{
-    let (first, rest) = cut(line, b' ');
-    let rest = rest?;
-    let (word, more) = cut(rest, b' ');
-    if let Some(_) = more {
-        return None;
+impl Draft {
+    /// Takes what follows `field`: one number of the table.
+    pub(crate) fn take_field(&mut self, line: &[u8], tokens: &[Token]) -> Result<(), LineRefused>
+        requires stage { self.old.stage ≡ Stage.Field }
+        requires draft { IsDraft self.old }
+        requires tokens { AllByRecursion (IsToken line.now) tokens.now }
+        ensures said { Takes result self.new (said.field_said (meaning self.old) (lexemes_of line.now tokens.now)) }
+        ensures draft { OnOk result (IsDraft self.new) }
+    {
+        let Some(token) = only(tokens) else {
+            return Err(LineRefused::Kind(TextKind::Syntax));
+        };
+        let TokenKind::Number = token.kind else {
+            return Err(LineRefused::Kind(TextKind::Syntax));
+        };
+        let Some(modulus) = modulus_of(digits_value(text(line, token))) else {
+            return Err(LineRefused::Kind(TextKind::Field));
+        };
+        self.ring.modulus = modulus;
+        self.stage = Stage::Parameters;
+        Ok(())
     }
-    if first == keyword { Some(word) } else { None }
+
+    /// Takes what follows `parameters`: at most eight names.
+    pub(crate) fn take_parameters(
+        &mut self,
+        alloc: Global,
+        line: &[u8],
+        tokens: &[Token],
+    ) -> Result<(), LineRefused>
+        requires stage { self.old.stage ≡ Stage.Parameters }
+        requires draft { IsDraft self.old }
+        requires tokens { AllByRecursion (IsToken line.now) tokens.now }
+        ensures said { Takes result self.new (said.parameters_said (meaning self.old) (lexemes_of line.now tokens.now)) }
+        ensures draft { OnOk result (IsDraft self.new) }
+    {
+        let names = read_names(alloc, &[], 0, line, tokens)?;
+        self.ring.parameters = names.len() as u32;
+        self.names = names;
+        self.stage = Stage::Variables;
+        Ok(())
+    }
+
+    /// Takes what follows `variables`: one to eight names, none of them a parameter.
+    pub(crate) fn take_variables(
+        &mut self,
+        alloc: Global,
+        line: &[u8],
+        tokens: &[Token],
+    ) -> Result<(), LineRefused>
+        requires stage { self.old.stage ≡ Stage.Variables }
+        requires draft { IsDraft self.old }
+        requires tokens { AllByRecursion (IsToken line.now) tokens.now }
+        ensures said { Takes result self.new (said.variables_said (meaning self.old) (lexemes_of line.now tokens.now)) }
+        ensures draft { OnOk result (IsDraft self.new) }
+    {
+        let names = read_names(alloc, self.names.as_slice(), 1, line, tokens)?;
+        let count = names.len() as u32;
+        self.names = with_copies(alloc, names, self.names.as_slice())?;
+        self.ring.variables = count;
+        self.stage = Stage::Order;
+        Ok(())
+    }
+
+    /// Takes what follows `order`: one kind.
+    pub(crate) fn take_order(&mut self, line: &[u8], tokens: &[Token]) -> Result<(), LineRefused>
+        requires stage { self.old.stage ≡ Stage.Order }
+        requires draft { IsDraft self.old }
+        requires tokens { AllByRecursion (IsToken line.now) tokens.now }
+        ensures said { Takes result self.new (said.order_said (meaning self.old) (lexemes_of line.now tokens.now)) }
+        ensures draft { OnOk result (IsDraft self.new) }
+    {
+        let Some(token) = only(tokens) else {
+            return Err(LineRefused::Kind(TextKind::Syntax));
+        };
+        let TokenKind::Name = token.kind else {
+            return Err(LineRefused::Kind(TextKind::Syntax));
+        };
+        self.ring.kind = kind_of(text(line, token))?;
+        self.stage = Stage::Body;
+        Ok(())
+    }
 }
 
-/// The modulus of a `field` line.
-pub(crate) fn read_field(line: &[u8]) -> Option<Modulus>
-    ensures { result ≡ field_said (pieces 32 line.now) }
+/// The one token.
+fn only(tokens: &[Token]) -> Option<Token>
+    ensures { result ≡ only tokens.now }
 {
-    let number = number_of(argument(line, b"field")?)?;
+    let (first, rest) = tokens.split_first()?;
+    if rest.is_empty() { Some(*first) } else { None }
+}
+
+fn modulus_of(number: u64) -> Option<Modulus>
+    ensures modulus { result ≡ modulus_of number }
+    ensures table { IfSome result IsModulus }
+{
     Modulus::of(u32::try_from(number).ok()?)
 }
 
-/// The kind of an `order` line.
-pub(crate) fn read_order(line: &[u8]) -> Option<Kind>
-    ensures { result ≡ order_said (pieces 32 line.now) }
+fn kind_of(word: &[u8]) -> Result<Kind, LineRefused>
+    ensures { Gives result (said.kind_of word.now) }
 {
-    if argument(line, b"order")? == b"lex".as_slice() {
-        Some(Kind::Lex)
-    } else {
-        None
+    if word == b"lex".as_slice() {
+        return Ok(Kind::Lex);
     }
-}
-
-/// The names after a keyword. Each is new, and is none of the others.
-pub(crate) fn read_names(
-    alloc: Global,
-    keyword: &[u8],
-    others: &[Text],
-    line: &[u8],
-) -> Result<NameList, TextRefused>
-    ensures said { Gives result (names_line keyword.now others.now (pieces 32 line.now)) }
-    ensures few { IfOk result (λ names. length names ≤ MOST_NAMES) }
-    ensures distinct { IfOk result (λ names. IsDistinct bytes_eq others.now → IsDistinct bytes_eq (names ++ others.now)) }
-{
-    let (first, mut rest) = cut(line, b' ');
-    if first != keyword {
-        return Err(NOT_IN_FORM);
+    if word == b"grlex".as_slice() {
+        return Ok(Kind::GrLex);
     }
-    let mut names = ItemList::new(alloc);
-    while let Some(left) = rest {
-        let (word, after) = cut(left, b' ');
-        if !may_follow(word, others, names.as_slice()) {
-            return Err(NOT_IN_FORM);
-        }
-        names.push(text_of(alloc, word)?)?;
-        rest = after;
+    if word == b"grevlex".as_slice() {
+        return Ok(Kind::GrevLex);
     }
-    Ok(names)
-}
-
-/// Whether a word may be the next name after others and those of its own line.
-fn may_follow(word: &[u8], others: &[Text], names: &[Text]) -> bool
-    ensures { result ≡ may_follow others.now names.now word.now }
-{
-    is_name(word) && !is_among(word, others) && !is_among(word, names) && names.len() < MOST_NAMES
-}
-
-fn is_among(name: &[u8], names: &[Text]) -> bool
-    ensures { result ≡ list_any (bytes_eq name.now) names.now }
-{
-    names.iter().any(|other| is_same(name, other))
-}
-
-/// The names, and then copies of the others.
-pub(crate) fn with_copies(
-    alloc: Global,
-    mut names: NameList,
-    others: &[Text],
-) -> Result<NameList, AllocError>
-    ensures { IfOk result (λ all. all ≡ names ++ others.now) }
-{
-    for other in others {
-        names.push(text_of(alloc, other.as_slice())?)?;
-    }
-    Ok(names)
-}
-
-/// A copy of the bytes.
-fn text_of(alloc: Global, bytes: &[u8]) -> Result<Text, AllocError>
-    ensures { IfOk result (λ text. text ≡ bytes.now) }
-{
-    let mut text = ItemList::new(alloc);
-    text.extend_from_slice(bytes)?;
-    Ok(text)
+    Err(LineRefused::Kind(TextKind::Order))
 }

@@ -1,22 +1,26 @@
-//! Problem files: the text of a problem is read, and a problem is printed in its canonical text.
+//! The text of a problem is read: line by line, token by token, with its first fault.
 //!
-//! It promises that `read_problem` gives the problem that the bytes spell, or the fault, and that `problem_text`
-//! appends the canonical text. Below it stand polynomials (`cgs_poly`) and what they are made of. Read first:
-//! `problem_spelled` (specs/Reading), `polynomial_said` (specs/Polynomials) and `problem_text` (specs/Printing).
+//! It promises that `read_problem` gives the problem that the bytes spell, or the first fault with its line, and that
+//! what it gives is a valid problem. Below it stand problems and what a text spells (`cgs_problem`), tokens
+//! (`cgs_tokens`) and polynomials (`cgs_poly`). Read first: `problem_spelled` and `line_said` of `cgs_problem`, and
+//! `meaning` (specs/Drafts).
 #![tactic(auto)]
 
-mod fault;
+mod body;
+mod draft;
 mod header;
 mod lexeme;
+mod lines;
+mod names;
 mod polynomial;
-mod print;
-mod problem;
 mod product;
 mod read;
+mod refusal;
+mod scope;
+mod sum;
+mod terms;
 #[cfg(test)]
 mod tests;
 
-pub use fault::{TextFault, TextKind, TextRefused};
-pub use print::{fault_text, problem_text};
-pub use problem::{NameList, Problem, Text};
 pub use read::read_problem;
+pub use refusal::TextRefused;

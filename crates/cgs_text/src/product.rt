@@ -1,127 +1,178 @@
-//! A product as it is written: factors that are numbers, names and powers of names.
+//! A product as it is read, factor by factor.
 
-ghost use Rattle.std.specs.Prelude.{◌≡◌, ◌<◌, ◌≤◌, length, IfSome, bytes_eq};
-ghost use Rattle.cgs_exps.specs.Monomial.{degree};
-ghost use Rattle.cgs_poly.specs.Polynomial.{IsRing, term, places, greatest_degree};
-ghost use Rattle.cgs_text.specs.Lexemes.{pieces};
-ghost use Rattle.cgs_text.specs.Polynomials.{GivesTerm, Raises, raised, place_of, exponent_said, times_base, times_pieces, product_said};
+ghost use Rattle.std.specs.Prelude.{◌≡◌, ◌<◌, ◌≤◌, length, replicate, OnOk, IfOk};
+ghost use Rattle.std.specs.List.{AllByRecursion};
+ghost use Rattle.std.specs.Str.Parse.{digits_value};
+ghost use Rattle.cgs_poly.specs.Polynomial.{IsRing, term, places};
+ghost use Rattle.cgs_problem.specs.Lexemes.{lexemes_of, text_of};
+ghost use Rattle.cgs_problem.specs.Sums as sums;
+ghost use Rattle.cgs_text.specs.Answers.{Gives, Becomes};
+ghost use Rattle.cgs_text.specs.Scopes.{reader_in, IsReader, IsProduct, GivesFactor};
+ghost use Rattle.cgs_text.specs.Tokens.{IsToken};
 
-use crate::lexeme::{cut, digits_value, is_number, number_of};
-use crate::problem::Text;
+use crate::lexeme::{digits_value, text};
+use crate::refusal::LineRefused;
+use crate::scope::Scope;
 use cgs_exps::{MAX_DEGREE, degree};
 use cgs_field::Elem;
 use cgs_poly::Ring;
+use cgs_problem::TextKind;
+use cgs_tokens::{Token, TokenKind};
+use std::alloc::{AllocError, Global};
+use std::marker::Model;
 
-/// The coefficient of a product. Its exponents are put into `exponents`.
-pub(crate) fn read_product(
-    ring: &Ring,
-    names: &[Text],
-    bytes: &[u8],
-    exponents: &mut [u16],
-) -> Option<Elem>
-    requires ring { IsRing ring.now }
-    requires named { length names.now ≡ places ring.now }
-    requires places { length exponents.old ≡ places ring.now }
-    ensures { GivesTerm ring.now result exponents.new (product_said ring.now names.now bytes.now) }
-{
-    exponents.fill(0);
-    let mut coefficient = ring.modulus.of_u64(1);
-    let mut rest = Some(bytes);
-    while let Some(left) = rest {
-        let (factor, after) = cut(left, b'*');
-        coefficient = times_factor(ring, names, factor, coefficient, exponents)?;
-        rest = after;
-    }
-    Some(coefficient)
+/// A product, which contracts see as a term. Its exponents are changed in place.
+#[derive(Drop)]
+pub(crate) struct Product {
+    coefficient: Elem,
+    exponents: Vec<u16>,
 }
 
-/// The coefficient of a product times a factor. Its exponents are changed in place.
-fn times_factor(
-    ring: &Ring,
-    names: &[Text],
-    factor: &[u8],
-    coefficient: Elem,
-    exponents: &mut [u16],
-) -> Option<Elem>
-    requires ring { IsRing ring.now }
-    requires named { length names.now ≡ places ring.now }
-    requires below { coefficient < ring.now.modulus }
-    requires places { length exponents.old ≡ places ring.now }
-    requires low { degree exponents.old ≤ greatest_degree }
-    ensures { GivesTerm ring.now result exponents.new (times_pieces ring.now names.now (term coefficient exponents.old) (pieces 94 factor.now)) }
+impl Model for Product {
+    ghost use Rattle.cgs_poly.specs.Polynomial.{Term, term};
+
+    ghost Value = { Term };
+
+    ghost view = { λ product. term product.coefficient product.exponents.items };
+}
+
+impl Product {
+    /// A number times the monomial 1.
+    pub(crate) fn of(alloc: Global, ring: &Ring, c: Elem) -> Result<Product, AllocError>
+        ensures { IfOk result (λ product. product ≡ term c (replicate (places ring.now) 0)) }
+    {
+        Ok(Product {
+            coefficient: c,
+            exponents: vec![in alloc; 0; ring.places()]?,
+        })
+    }
+
+    /// Begins again with a number times the monomial 1.
+    pub(crate) fn restart(&mut self, c: Elem)
+        ensures { self.new ≡ term c (replicate (length self.old.exponents) 0) }
+    {
+        self.coefficient = c;
+        self.exponents.as_mut_slice().fill(0);
+    }
+
+    /// The coefficient.
+    pub(crate) fn coefficient(&self) -> Elem
+        ensures { result ≡ self.now.coefficient }
+    {
+        self.coefficient
+    }
+
+    /// The exponents.
+    pub(crate) fn exponents(&self) -> &[u16]
+        ensures { result.now ≡ self.now.exponents }
+    {
+        self.exponents.as_slice()
+    }
+
+    fn times_number(&mut self, scope: &Scope, number: u64)
+        requires reader { IsReader (reader_in scope.now) }
+        requires product { IsProduct (reader_in scope.now) self.old }
+        ensures said { self.new ≡ sums.times_number (reader_in scope.now) number self.old }
+        ensures product { IsProduct (reader_in scope.now) self.new }
+    {
+        let modulus = scope.ring.modulus;
+        self.coefficient = modulus.mul(self.coefficient, modulus.of_u64(number));
+    }
+
+    fn times_power(&mut self, scope: &Scope, place: usize, exponent: u16) -> Result<(), LineRefused>
+        requires reader { IsReader (reader_in scope.now) }
+        requires product { IsProduct (reader_in scope.now) self.old }
+        requires place { place < places scope.now.ring.now }
+        requires allowed { scope.now.barred ≤ place }
+        ensures said { Becomes result self.new (sums.times_power (reader_in scope.now) place exponent self.old) }
+        ensures product { OnOk result (IsProduct (reader_in scope.now) self.new) }
+    {
+        if degree(&self.exponents) + exponent as u32 > scope.most {
+            return Err(LineRefused::Kind(TextKind::Degree));
+        }
+        self.exponents[place] += exponent;
+        Ok(())
+    }
+}
+
+/// Multiplies a product by the factor that comes first. The answer is the tokens after it.
+#[tactic(auto, using(crate::proofs::FactorLemmas::product_of_name), unfolding(cgs_problem::specs::Sums::product))]
+pub(crate) fn times_factor<'a>(
+    scope: &Scope,
+    line: &[u8],
+    tokens: &'a [Token],
+    product: &mut Product,
+) -> Result<&'a [Token], LineRefused>
+    requires reader { IsReader (reader_in scope.now) }
+    requires tokens { AllByRecursion (IsToken line.now) tokens.now }
+    requires product { IsProduct (reader_in scope.now) product.old }
+    ensures said { GivesFactor (reader_in scope.now) line.now result product.new (sums.product (reader_in scope.now) product.old (lexemes_of line.now tokens.now)) }
+    ensures product { OnOk result (IsProduct (reader_in scope.now) product.new) }
+    ensures tokens { IfOk result (λ rest. AllByRecursion (IsToken line.now) rest.now) }
+    ensures fewer { IfOk result (λ rest. length rest.now < length tokens.now) }
 {
-    let (base, rest) = cut(factor, b'^');
-    let Some(rest) = rest else {
-        return times_base(ring, names, base, coefficient, exponents);
+    let Some((first, rest)) = tokens.split_first() else {
+        return Err(LineRefused::Kind(TextKind::Syntax));
     };
-    let (digits, more) = cut(rest, b'^');
-    if let Some(_) = more {
-        return None;
-    }
-    let place = place_of(names, base)?;
-    let exponent = exponent_of(digits)?;
-    raise(exponents, place, exponent)?;
-    Some(coefficient)
-}
-
-/// The same for a factor that is a number or a name alone.
-fn times_base(
-    ring: &Ring,
-    names: &[Text],
-    base: &[u8],
-    coefficient: Elem,
-    exponents: &mut [u16],
-) -> Option<Elem>
-    requires ring { IsRing ring.now }
-    requires named { length names.now ≡ places ring.now }
-    requires below { coefficient < ring.now.modulus }
-    requires places { length exponents.old ≡ places ring.now }
-    requires low { degree exponents.old ≤ greatest_degree }
-    ensures { GivesTerm ring.now result exponents.new (times_base ring.now names.now (term coefficient exponents.old) base.now) }
-{
-    if is_number(base) {
-        let number = ring.modulus.of_u64(digits_value(base));
-        return Some(ring.modulus.mul(coefficient, number));
-    }
-    let place = place_of(names, base)?;
-    raise(exponents, place, 1)?;
-    Some(coefficient)
-}
-
-fn place_of(names: &[Text], name: &[u8]) -> Option<usize>
-    ensures place { result ≡ place_of names.now name.now }
-    ensures within { IfSome result (λ place. place < length names.now) }
-{
-    names.iter().position(|other| is_same(name, other))
-}
-
-pub(crate) fn is_same(name: &[u8], other: &Text) -> bool
-    ensures { result ≡ bytes_eq name.now other.now }
-{
-    name == other.as_slice()
-}
-
-fn exponent_of(digits: &[u8]) -> Option<u16>
-    ensures { result ≡ exponent_said digits.now }
-{
-    let value = number_of(digits)?;
-    if value <= MAX_DEGREE as u64 {
-        Some(value as u16)
-    } else {
-        None
+    match first.kind {
+        TokenKind::Number => {
+            product.times_number(scope, digits_value(text(line, *first)));
+            Ok(rest)
+        }
+        TokenKind::Name => {
+            let place = scope.place_of(text(line, *first))?;
+            times_power(scope, line, rest, place, product)
+        }
+        _ => Err(LineRefused::Kind(TextKind::Syntax)),
     }
 }
 
-/// Adds to the exponent at a place, unless the degree passes the limit.
-fn raise(exponents: &mut [u16], place: usize, exponent: u16) -> Option<()>
-    requires place { place < length exponents.old }
-    requires places { length exponents.old ≤ 17 }
-    requires low { degree exponents.old ≤ greatest_degree }
-    ensures { Raises result exponents.new (raised place exponent exponents.old) }
+/// Multiplies a product by the power of the name at a place. The answer is the tokens after it.
+#[tactic(auto, unfolding(cgs_problem::specs::Sums::powered))]
+fn times_power<'a>(
+    scope: &Scope,
+    line: &[u8],
+    tokens: &'a [Token],
+    place: usize,
+    product: &mut Product,
+) -> Result<&'a [Token], LineRefused>
+    requires reader { IsReader (reader_in scope.now) }
+    requires tokens { AllByRecursion (IsToken line.now) tokens.now }
+    requires product { IsProduct (reader_in scope.now) product.old }
+    requires place { place < places scope.now.ring.now }
+    requires allowed { scope.now.barred ≤ place }
+    ensures said { GivesFactor (reader_in scope.now) line.now result product.new (sums.powered (reader_in scope.now) product.old place (lexemes_of line.now tokens.now)) }
+    ensures product { OnOk result (IsProduct (reader_in scope.now) product.new) }
+    ensures tokens { IfOk result (λ rest. AllByRecursion (IsToken line.now) rest.now) }
+    ensures fewer { IfOk result (λ rest. length rest.now ≤ length tokens.now) }
 {
-    if degree(exponents) + exponent as u32 > MAX_DEGREE {
-        return None;
+    let Some((first, after)) = tokens.split_first() else {
+        product.times_power(scope, place, 1)?;
+        return Ok(tokens);
+    };
+    let TokenKind::Power = first.kind else {
+        product.times_power(scope, place, 1)?;
+        return Ok(tokens);
+    };
+    let Some((second, rest)) = after.split_first() else {
+        return Err(LineRefused::Kind(TextKind::Syntax));
+    };
+    let TokenKind::Number = second.kind else {
+        return Err(LineRefused::Kind(TextKind::Syntax));
+    };
+    let exponent = exponent_of(line, *second)?;
+    product.times_power(scope, place, exponent)?;
+    Ok(rest)
+}
+
+fn exponent_of(line: &[u8], token: Token) -> Result<u16, LineRefused>
+    requires token { IsToken line.now token }
+    requires number { token.kind ≡ TokenKind.Number }
+    ensures { Gives result (sums.exponent_of (digits_value 10 (text_of line.now token))) }
+{
+    let value = digits_value(text(line, token));
+    if value > MAX_DEGREE as u64 {
+        return Err(LineRefused::Kind(TextKind::Exponent));
     }
-    exponents[place] += exponent;
-    Some(())
+    Ok(value as u16)
 }

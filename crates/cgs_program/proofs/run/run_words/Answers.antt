@@ -1,5 +1,5 @@
 use Rattle.std.proofs.Common.{sym}
-use Rattle.cgs_program.specs.Words.{plan_of}
+use Rattle.cgs_words.specs.Words.{plan_of}
 use Rattle.cgs_program.specs.Run.{Seen}
 use Rattle.cgs_program.proofs.Ending.{refused}
 use Rattle.cgs_program.proofs.run.run_words.Goals as goal

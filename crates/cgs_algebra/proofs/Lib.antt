@@ -1,0 +1,10 @@
+pub mod CombinationLemmas
+pub mod MemberLemmas
+pub mod LcmLemmas
+pub mod RepresentationLemmas
+pub mod BuchbergerLemmas
+pub mod GroebnerLemmas
+pub mod AscendingLemmas
+pub mod UniquenessLemmas
+pub mod CriterionLemmas
+pub mod ExampleLemmas

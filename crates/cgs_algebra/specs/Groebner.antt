@@ -1,0 +1,50 @@
+-- Gröbner bases, minimal and reduced ones (Cox, Little, O'Shea, chapter 2, sections 5 and 7; Becker, Weispfenning, section 5.2).
+use Rattle.std.specs.Prelude.{ℕ, ◌≡◌, ◌<◌, List, [], ◌∷◌, length, slice_index_or, IsTrue}
+use Rattle.std.specs.declared.cmp.Ordering.TheVariants.{Less}
+use Rattle.cgs_exps.specs.Monomial.{divides}
+use Rattle.cgs_order.specs.TermOrder.{compared}
+use Rattle.cgs_poly.specs.declared.ring.Ring.{Ring}
+use Rattle.cgs_poly.specs.Polynomial.{Term, order_of, IsCanonical}
+use Rattle.cgs_poly.specs.Product.{lead, lead_coefficient}
+use Rattle.cgs_algebra.specs.Combination.{IsMember}
+
+-- the lead of the polynomial at a place of a list
+abbrev pub lead_at : List (List Term) → ℕ → List ℕ
+lead_at G i = lead (slice_index_or G i [])
+
+-- the lead of a member of G divides m
+abbrev pub SomeLeadDivides : List (List Term) → List ℕ → Type 0
+SomeLeadDivides G m = (i : ℕ) × (i < length G) × IsTrue (divides (lead_at G i) m)
+
+-- G is a Gröbner basis of the ideal of F
+pub record IsGroebnerBasis (ring : Ring) (G F : List (List Term)) : Type 0 where
+  pub members : (i : ℕ) → i < length G → IsMember ring F (slice_index_or G i [])
+  pub not_zero : (i : ℕ) → i < length G → ¬ (slice_index_or G i [] ≡ [])
+  pub leads : (f : List Term) → IsCanonical ring f → IsMember ring F f → ¬ (f ≡ []) → SomeLeadDivides G (lead f)
+
+-- polynomials of the ring with the leading coefficient 1
+pub record AreMonic (ring : Ring) (G : List (List Term)) : Type 0 where
+  pub canonical : (i : ℕ) → i < length G → IsCanonical ring (slice_index_or G i [])
+  pub monic : (i : ℕ) → i < length G → lead_coefficient (slice_index_or G i []) ≡ 1
+
+-- no lead divides the lead at another place
+pub record IsMinimal (ring : Ring) (G F : List (List Term)) : Type 0 where
+  pub groebner : IsGroebnerBasis ring G F
+  pub apart : (i j : ℕ) → i < length G → j < length G → ¬ (i ≡ j) → ¬ IsTrue (divides (lead_at G i) (lead_at G j))
+
+-- m divides no monomial of f
+abbrev pub DividesNone : List ℕ → List Term → Type 0
+DividesNone m [] = Unit {0}
+DividesNone m (x ∷ f) = ¬ IsTrue (divides m x.exponents) × DividesNone m f
+
+-- a minimal one of monic members, where no lead divides a monomial of another member
+pub record IsReduced (ring : Ring) (G F : List (List Term)) : Type 0 where
+  pub minimal : IsMinimal ring G F
+  pub monic : AreMonic ring G
+  pub reduced : (i j : ℕ) → i < length G → j < length G → ¬ (i ≡ j) → DividesNone (lead_at G i) (slice_index_or G j [])
+
+-- the leads strictly ascend
+abbrev pub IsAscending : Ring → List (List Term) → Type 0
+IsAscending ring [] = Unit {0}
+IsAscending ring (f ∷ []) = Unit {0}
+IsAscending ring (f ∷ g ∷ G) = (compared (order_of ring) (lead f) (lead g) ≡ Less) × IsAscending ring (g ∷ G)

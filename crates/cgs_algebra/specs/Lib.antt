@@ -1,0 +1,5 @@
+pub mod Combination
+pub mod Groebner
+pub mod SPolynomial
+pub mod Laws
+pub mod Examples

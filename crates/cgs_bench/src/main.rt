@@ -1,0 +1,143 @@
+//! A program that does one operation on polynomials again and again and prints nothing, for a script to time.
+//!
+//! Its words are the operation, the number of terms of each polynomial and how often it is done: `add 1000 50`. Of
+//! `divide` the last is the number of units of work. The status is 1 where the words say something else or memory is short.
+#![tactic(auto)]
+
+ghost use Rattle.std.specs.Prelude.{◌≡◌, ◌≤◌, ◌<◌, ℕ, [], length, slice_index_or, IfSome, IfOk};
+ghost use Rattle.cgs_poly.specs.Polynomial.{IsRing, IsPoly, places};
+ghost use Rattle.cgs_algebra.specs.Groebner.{AreMonic};
+
+use cgs_divide::{Stop, divide};
+use cgs_field::Modulus;
+use cgs_order::Kind;
+use cgs_poly::{Poly, PolyFault, PolyList, Ring};
+use std::alloc::Global;
+use std::env;
+use std::process::ExitCode;
+use std::rt::Env;
+
+fn main(rt: HostRuntime) -> ExitCode {
+    match timed(&rt, rt.alloc()) {
+        Some(()) => ExitCode::SUCCESS,
+        None => ExitCode::FAILURE,
+    }
+}
+
+/// Does what the words ask for.
+fn timed(rt: &(impl Env + AllocGlobal), alloc: Global) -> Option<()> {
+    let arguments: Vec<String> = env::args(rt).ok()?.collect(alloc).ok()?;
+    let operation = arguments.get(1)?.as_str();
+    let terms = number(arguments.get(2)?)?;
+    let times = number(arguments.get(3)?)?;
+    let ring = plane()?;
+    let f = spread(alloc, &ring, 2, 0, terms).ok()?;
+    if operation == "divide" {
+        return divide_for(alloc, &ring, &f, times);
+    }
+    let g = spread(alloc, &ring, 3, 0, terms).ok()?;
+    for _ in 0..times {
+        let result = operated(alloc, &ring, operation, &f, &g).ok()?;
+        drop(result);
+    }
+    Some(())
+}
+
+/// Divides f by a polynomial of ten terms again and again, until so many units are spent.
+fn divide_for(alloc: Global, ring: &Ring, f: &Poly, units: u32) -> Option<()>
+    requires ring { IsRing ring.now }
+    requires two { places ring.now ≡ 2 }
+    requires poly { IsPoly ring.now f.now }
+{
+    let divisor = spread(alloc, ring, 3, 0, 10).ok()?;
+    let divisors = monic_list(alloc, ring, &divisor).ok()?;
+    let mut fuel = u64::from(units);
+    for _ in 0..units {
+        match divide(alloc, ring, f, &divisors, &mut fuel) {
+            Ok(division) => drop(division),
+            Err(Stop::Budget) => return Some(()),
+            Err(_) => return None,
+        }
+    }
+    Some(())
+}
+
+/// The monic multiple of a polynomial alone, or nothing where it is 0.
+fn monic_list(alloc: Global, ring: &Ring, f: &Poly) -> Result<PolyList, PolyFault>
+    requires ring { IsRing ring.now }
+    requires poly { IsPoly ring.now f.now }
+    ensures monic { IfOk result (λ G. AreMonic ring.now G) }
+    ensures polys { IfOk result (λ G. (i : ℕ) → i < length G → IsPoly ring.now (slice_index_or G i [])) }
+{
+    let mut list = PolyList::new(alloc);
+    if f.len() == 0 {
+        return Ok(list);
+    }
+    list.push(Poly::monic(alloc, ring, f)?)?;
+    Ok(list)
+}
+
+/// The number that a word writes, if it is at most a million.
+fn number(word: &String) -> Option<u32>
+    ensures { IfSome result (λ n. n ≤ 1000000) }
+{
+    let number = word.parse().ok()?;
+    if number > 1_000_000 {
+        return None;
+    }
+    Some(number)
+}
+
+/// The ring in two variables modulo 32003.
+fn plane() -> Option<Ring>
+    ensures valid { IfSome result (λ ring. IsRing ring) }
+    ensures two { IfSome result (λ ring. places ring ≡ 2) }
+{
+    Some(Ring {
+        modulus: Modulus::of(32003)?,
+        variables: 2,
+        parameters: 0,
+        kind: Kind::Lex,
+    })
+}
+
+/// The terms with the numbers `from` up to `to`: the number's digits to the base 300, times `step`, are the exponents.
+fn spread(alloc: Global, ring: &Ring, step: u32, from: u32, to: u32) -> Result<Poly, PolyFault>
+    requires ring { IsRing ring.now }
+    requires two { places ring.now ≡ 2 }
+    requires step { step ≤ 3 }
+    requires few { to ≤ 1000000 }
+    ensures { IfOk result (λ f. IsPoly ring.now f) }
+{
+    if to <= from {
+        return Ok(Poly::zero(alloc));
+    }
+    if to - from == 1 {
+        let exponents = [(from / 300) as u16, (from % 300 * step) as u16];
+        let coefficient = ring.modulus.of_u64(u64::from(from % 32002) + 1);
+        return Poly::of_term(alloc, ring, coefficient, &exponents);
+    }
+    let half = from + (to - from) / 2;
+    let first = spread(alloc, ring, step, from, half)?;
+    let second = spread(alloc, ring, step, half, to)?;
+    let sum = Poly::add(alloc, ring, &first, &second)?;
+    Ok(sum)
+}
+
+/// One operation on f and g.
+fn operated(
+    alloc: Global,
+    ring: &Ring,
+    operation: &str,
+    f: &Poly,
+    g: &Poly,
+) -> Result<Poly, PolyFault>
+    requires ring { IsRing ring.now }
+    requires first { IsPoly ring.now f.now }
+    requires second { IsPoly ring.now g.now }
+{
+    match operation {
+        "product" => Poly::product(alloc, ring, f, g),
+        _ => Ok(Poly::add(alloc, ring, f, g)?),
+    }
+}

@@ -1,0 +1,114 @@
+-- A division run after terms that were found before it: what a loop has done so far, and the run that is left to it.
+use Rattle.std.proofs.Common.{ℕ, zero, suc, ◌≡◌, ◌-◌, Bool, true, false, cond, ltb, List, [], ◌∷◌, ◌++◌, length, get_or, set, append_assoc, refl, sym, ap, ◌∙◌, arith}
+use Rattle.std.proofs.lemmas.List.{append-nil}
+use Rattle.cgs_exps.specs.Monomial.{quotient}
+use Rattle.cgs_poly.specs.declared.ring.Ring.{Ring}
+use Rattle.cgs_poly.specs.Polynomial.{Term, term}
+use Rattle.cgs_poly.specs.Product.{multiple, lead}
+use Rattle.cgs_divide.specs.DivisionRun.{Run, done, out_of_budget, out_of_degree, first_divisor, is_too_high, less_multiple, charged, with_remainder, with_quotient, added_at, divided_in, divided}
+use Rattle.cgs_divide.proofs.QuotientLemmas.{added_length, zeros, zeros_length}
+
+-- the terms of each quotient after those of the same place
+abbrev pub joined : List (List Term) → List (List Term) → List (List Term)
+joined [] more = []
+joined (q ∷ quotients) [] = []
+joined (q ∷ quotients) (m ∷ more) = (q ++ m) ∷ joined quotients more
+
+-- a run after a remainder and quotients
+abbrev pub resumed : List Term → List (List Term) → Run → Run
+resumed before quotients (done remainder more units) = done (before ++ remainder) (joined quotients more) units
+resumed before quotients (out_of_budget units) = out_of_budget units
+resumed before quotients (out_of_degree units) = out_of_degree units
+
+pub resumed_charged : (before : List Term) (quotients : List (List Term)) (cost units : ℕ) (run : Run)
+    → resumed before quotients (charged cost units run) ≡ charged cost units (resumed before quotients run)
+resumed_charged before quotients cost units run = by_test (ltb units cost)
+  where
+    by_test : (b : Bool) → resumed before quotients (cond b (out_of_budget units) run) ≡ cond b (out_of_budget units) (resumed before quotients run)
+    by_test true = refl
+    by_test false = refl
+
+-- a term of the remainder
+pub resumed_remainder : (before : List Term) (quotients : List (List Term)) (x : Term) (run : Run)
+    → resumed before quotients (with_remainder x run) ≡ resumed (before ++ x ∷ []) quotients run
+resumed_remainder before quotients x (done remainder more units) = let e : before ++ x ∷ remainder ≡ (before ++ x ∷ []) ++ remainder = sym (append_assoc before (x ∷ []) remainder) in cc
+resumed_remainder before quotients x (out_of_budget units) = refl
+resumed_remainder before quotients x (out_of_degree units) = refl
+
+joined_added : (i : ℕ) (x : Term) (quotients more : List (List Term)) → joined quotients (added_at i x more) ≡ joined (set quotients i (get_or quotients i [] ++ x ∷ [])) more
+joined_added i x [] more = refl
+joined_added zero x (q ∷ quotients) [] = refl
+joined_added (suc i) x (q ∷ quotients) [] = refl
+joined_added zero x (q ∷ quotients) (m ∷ more) = let e : q ++ x ∷ m ≡ (q ++ x ∷ []) ++ m = sym (append_assoc q (x ∷ []) m) in cc
+joined_added (suc i) x (q ∷ quotients) (m ∷ more) = ap (λ n. (q ++ m) ∷ n) (joined_added i x quotients more)
+
+-- a term of the quotient at a place
+pub resumed_quotient : (before : List Term) (quotients : List (List Term)) (i : ℕ) (x : Term) (run : Run)
+    → resumed before quotients (with_quotient i x run) ≡ resumed before (set quotients i (get_or quotients i [] ++ x ∷ [])) run
+resumed_quotient before quotients i x (done remainder more units) = ap (λ n. done (before ++ remainder) n units) (joined_added i x quotients more)
+resumed_quotient before quotients i x (out_of_budget units) = refl
+resumed_quotient before quotients i x (out_of_degree units) = refl
+
+-- nothing is left
+joined_zeros : (quotients G : List (List Term)) → length quotients ≡ length G → joined quotients (zeros G) ≡ quotients
+joined_zeros [] G l = refl
+joined_zeros (q ∷ quotients) [] l = absurd (omega arith)
+joined_zeros (q ∷ quotients) (g ∷ G) l = cc (append-nil q, joined_zeros quotients G (omega arith))
+
+pub resumed_done : (before : List Term) (quotients G : List (List Term)) (units : ℕ) → length quotients ≡ length G
+    → resumed before quotients (done [] (zeros G) units) ≡ done before quotients units
+resumed_done before quotients G units l = cc (append-nil before, joined_zeros quotients G l)
+
+-- nothing was found before
+
+-- a run that is done has a quotient for each divisor
+abbrev HasPlaces : ℕ → Run → Type 0
+HasPlaces n (done remainder quotients units) = length quotients ≡ n
+HasPlaces n (out_of_budget units) = Unit {0}
+HasPlaces n (out_of_degree units) = Unit {0}
+
+remainder_places : (n : ℕ) (x : Term) (run : Run) → HasPlaces n run → HasPlaces n (with_remainder x run)
+remainder_places n x (done remainder quotients units) h = h
+remainder_places n x (out_of_budget units) h = tt
+remainder_places n x (out_of_degree units) h = tt
+
+quotient_places : (n i : ℕ) (x : Term) (run : Run) → HasPlaces n run → HasPlaces n (with_quotient i x run)
+quotient_places n i x (done remainder quotients units) h = added_length i x quotients ∙ h
+quotient_places n i x (out_of_budget units) h = tt
+quotient_places n i x (out_of_degree units) h = tt
+
+cond_places : (n : ℕ) (b : Bool) (first second : Run) → HasPlaces n first → HasPlaces n second → HasPlaces n (cond b first second)
+cond_places n true first second h k = h
+cond_places n false first second h k = k
+
+run_places : (steps : ℕ) (ring : Ring) (G : List (List Term)) (units : ℕ) (f : List Term) → HasPlaces (length G) (divided_in steps ring G units f)
+run_places zero ring G units f = tt
+run_places (suc n) ring G units [] = zeros_length G
+run_places (suc n) ring G units (x ∷ f) =
+    let i : ℕ = first_divisor G x.exponents in
+    let g : List Term = get_or G i [] in
+    let t : List ℕ = quotient x.exponents (lead g) in
+    let rest : Run = divided_in n ring G (units - length g) (less_multiple ring (x ∷ f) x.coefficient t g) in
+    let next : Run = with_quotient i (term x.coefficient t) rest in
+    let checked : Run = cond (is_too_high (multiple x.coefficient t g)) (out_of_degree (units - length g)) next in
+    let kept : Run = with_remainder x (divided_in n ring G (units - 1) f) in
+    let a : HasPlaces (length G) next = quotient_places (length G) i (term x.coefficient t) rest (run_places n ring G (units - length g) (less_multiple ring (x ∷ f) x.coefficient t g)) in
+    let b : HasPlaces (length G) checked = cond_places (length G) (is_too_high (multiple x.coefficient t g)) (out_of_degree (units - length g)) next tt a in
+    let c : HasPlaces (length G) kept = remainder_places (length G) x (divided_in n ring G (units - 1) f) (run_places n ring G (units - 1) f) in
+    cond_places (length G) (ltb i (length G)) (charged (length g) units checked) (charged 1 units kept)
+    (cond_places (length G) (ltb units (length g)) (out_of_budget units) checked tt b) (cond_places (length G) (ltb units 1) (out_of_budget units) kept tt c)
+
+zeros_joined : (G more : List (List Term)) → length more ≡ length G → joined (zeros G) more ≡ more
+zeros_joined [] [] l = refl
+zeros_joined [] (m ∷ more) l = absurd (omega arith)
+zeros_joined (g ∷ G) [] l = absurd (omega arith)
+zeros_joined (g ∷ G) (m ∷ more) l = ap (λ n. m ∷ n) (zeros_joined G more (omega arith))
+
+pub resumed_nothing : (ring : Ring) (G : List (List Term)) (units : ℕ) (f : List Term) → resumed [] (zeros G) (divided ring G units f) ≡ divided ring G units f
+unfolding divided
+resumed_nothing ring G units f = by_run (divided_in (suc units) ring G units f) (run_places (suc units) ring G units f)
+  where
+    by_run : (run : Run) → HasPlaces (length G) run → resumed [] (zeros G) run ≡ run
+    by_run (done remainder quotients left) h = ap (λ n. done remainder n left) (zeros_joined G quotients h)
+    by_run (out_of_budget left) h = refl
+    by_run (out_of_degree left) h = refl

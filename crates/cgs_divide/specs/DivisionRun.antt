@@ -1,0 +1,67 @@
+-- The division of a polynomial by a list of polynomials (Cox, Little, O'Shea, chapter 2, section 3), with units of work and a limit on degrees.
+use Rattle.std.specs.Prelude.{ℕ, zero, suc, ◌-◌, Bool, false, cond, ◌||◌, List, [], ◌∷◌, ◌++◌, length, slice_index_or, nat_lt, map}
+use Rattle.cgs_exps.specs.Monomial.{degree, divides, quotient}
+use Rattle.cgs_poly.specs.declared.ring.Ring.{Ring}
+use Rattle.cgs_poly.specs.Polynomial.{Term, term, canonical, greatest_degree}
+use Rattle.cgs_poly.specs.Product.{multiple, lead}
+
+-- how a run ends: with a remainder, a quotient for each divisor and the units left, or without them and with the units left
+pub data Run : Type 0 where
+  done : List Term → List (List Term) → ℕ → Run
+  out_of_budget : ℕ → Run
+  out_of_degree : ℕ → Run
+
+-- the place of the first polynomial whose lead divides m, or the number of polynomials
+abbrev pub first_divisor : List (List Term) → List ℕ → ℕ
+first_divisor [] m = 0
+first_divisor (g ∷ G) m = cond (divides (lead g) m) 0 (suc (first_divisor G m))
+
+-- some monomial has a degree above the limit
+abbrev pub is_too_high : List Term → Bool
+is_too_high [] = false
+is_too_high (x ∷ f) = nat_lt greatest_degree (degree x.exponents) || is_too_high f
+
+-- f - c*t*g
+abbrev pub less_multiple : Ring → List Term → ℕ → List ℕ → List Term → List Term
+less_multiple ring f c t g = canonical ring (f ++ multiple (ring.modulus - c) t g)
+
+-- a step that costs more than the units that are left ends the run, and takes none
+abbrev pub charged : ℕ → ℕ → Run → Run
+charged cost units run = cond (nat_lt units cost) (out_of_budget units) run
+
+-- the same with a term at the front of the remainder
+abbrev pub with_remainder : Term → Run → Run
+with_remainder x (done remainder quotients units) = done (x ∷ remainder) quotients units
+with_remainder x (out_of_budget units) = out_of_budget units
+with_remainder x (out_of_degree units) = out_of_degree units
+
+-- a term at the front of the quotient at a place
+abbrev pub added_at : ℕ → Term → List (List Term) → List (List Term)
+added_at i x [] = []
+added_at zero x (q ∷ quotients) = (x ∷ q) ∷ quotients
+added_at (suc i) x (q ∷ quotients) = q ∷ added_at i x quotients
+
+-- the same with a term added to the quotient at a place
+abbrev pub with_quotient : ℕ → Term → Run → Run
+with_quotient i x (done remainder quotients units) = done remainder (added_at i x quotients) units
+with_quotient i x (out_of_budget units) = out_of_budget units
+with_quotient i x (out_of_degree units) = out_of_degree units
+
+-- the run in at most so many steps. The first divisor whose lead divides the leading term takes it: this costs the divisor's number of terms.
+-- If none does, it goes to the remainder: this costs 1
+abbrev pub divided_in : ℕ → Ring → List (List Term) → ℕ → List Term → Run
+divided_in zero ring G units f = out_of_budget units
+divided_in (suc steps) ring G units [] = done [] (map (λ g. []) G) units
+divided_in (suc steps) ring G units (x ∷ f) =
+    let i = first_divisor G x.exponents in
+    let g = slice_index_or G i [] in
+    let t = quotient x.exponents (lead g) in
+    cond (nat_lt i (length G))
+    (charged (length g) units
+    (cond (is_too_high (multiple x.coefficient t g)) (out_of_degree (units - length g))
+    (with_quotient i (term x.coefficient t) (divided_in steps ring G (units - length g) (less_multiple ring (x ∷ f) x.coefficient t g)))))
+    (charged 1 units (with_remainder x (divided_in steps ring G (units - 1) f)))
+
+-- the division run of f by G: since each step costs a unit, it has at most one step more than units
+unfoldable pub divided : Ring → List (List Term) → ℕ → List Term → Run
+divided ring G units f = divided_in (suc units) ring G units f

@@ -1,0 +1,6 @@
+pub mod DivisionRun
+pub mod Division
+pub mod Autoreduction
+pub mod Laws
+pub mod Examples
+pub mod Stop

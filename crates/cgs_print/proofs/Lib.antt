@@ -1,0 +1,17 @@
+pub mod PrintLemmas
+pub mod PrintedPowerLemmas
+pub mod PrintedTermLemmas
+pub mod PrintedPolynomialLemmas
+pub mod FirstNamesLemmas
+pub mod LexemeLemmas
+pub mod FactorLemmas
+pub mod MonomialLemmas
+pub mod TermLemmas
+pub mod PolynomialLemmas
+pub mod LineLemmas
+pub mod HeaderLemmas
+pub mod BodyLemmas
+pub mod NameLemmas
+pub mod ReadableLemmas
+pub mod SpelledLemmas
+pub mod RoundTripLemmas

@@ -1,0 +1,21 @@
+//! Polynomials, problems and faults printed.
+//!
+//! It promises that the canonical text is appended, or for want of memory a front of it, and that the text of a problem
+//! that some bytes spell spells it again. Below it stand problems and their reading as a definition (`cgs_problem`). Read
+//! first: `polynomial_text` and `problem_text` (specs/Printing), `ReadsBack` (specs/RoundTrip).
+#![tactic(auto)]
+
+mod fault;
+mod laws;
+mod line;
+mod polynomial;
+mod problem;
+mod push;
+
+pub use fault::fault_text;
+pub use laws::printed_problems_read_back;
+pub use polynomial::poly_text;
+pub use problem::problem_text;
+
+#[cfg(test)]
+mod tests;

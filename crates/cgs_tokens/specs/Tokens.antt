@@ -1,0 +1,71 @@
+-- A line as tokens, from the left, or its first offence.
+use Rattle.std.specs.Prelude.{◌≡◌, ℕ, zero, suc, ◌+◌, ◌-◌, Bool, ◌||◌, List, [], ◌∷◌, length, if◌then◌else◌, ◌==◌, nat_lt, Result, Ok, Err}
+use Rattle.std.specs.List.{prefix_len}
+use Rattle.std.specs.Char.{is_ascii_digit, is_ascii_alphabetic, is_ascii_alphanumeric}
+use Rattle.cgs_tokens.specs.declared.token.Token.{Token}
+use Rattle.cgs_tokens.specs.declared.token.TokenKind.{TokenKind}
+use Rattle.cgs_tokens.specs.declared.token.TokenKind.TheVariants as kind
+use Rattle.cgs_tokens.specs.declared.token.TokenFault.{TokenFault}
+use Rattle.cgs_tokens.specs.declared.token.TokenFault.TheVariants.{Byte, Literal, LongName, OutOfMemory}
+
+-- a space or a tab
+abbrev pub is_blank : ℕ → Bool
+is_blank byte = (byte == 32) || (byte == 9)
+
+-- a letter, a digit or `_`
+abbrev pub is_word : ℕ → Bool
+is_word byte = is_ascii_alphanumeric byte || (byte == 95)
+
+abbrev pub spanned : TokenKind → ℕ → ℕ → Token
+spanned kind place length = record { kind = kind; start = place; end = place + length }
+
+-- the token, unless it is longer than the limit
+abbrev pub at_most : ℕ → ℕ → Result Token TokenFault → TokenFault → Result Token TokenFault
+at_most limit length token fault = if nat_lt limit length then Err fault else token
+
+-- The longest name or number, or the sign, that the bytes begin with. The place is that of the first byte.
+unfoldable pub name_at : ℕ → List ℕ → Result Token TokenFault
+name_at place bytes = at_most 32 (prefix_len is_word bytes) (Ok (spanned kind.Name place (prefix_len is_word bytes))) (LongName place)
+
+unfoldable pub number_at : ℕ → List ℕ → Result Token TokenFault
+number_at place bytes = at_most 18 (prefix_len is_ascii_digit bytes) (Ok (spanned kind.Number place (prefix_len is_ascii_digit bytes))) (Literal place)
+
+unfoldable pub sign_at : ℕ → ℕ → Result Token TokenFault
+sign_at place byte =
+    if byte == 43 then Ok (spanned kind.Plus place 1)
+    else (if byte == 45 then Ok (spanned kind.Minus place 1)
+    else (if byte == 42 then Ok (spanned kind.Times place 1)
+    else (if byte == 94 then Ok (spanned kind.Power place 1)
+    else Err (Byte place))))
+
+unfoldable pub token_at : ℕ → List ℕ → Result Token TokenFault
+token_at place [] = Err (Byte place)
+token_at place (byte ∷ bytes) =
+    if is_ascii_alphabetic byte then name_at place (byte ∷ bytes)
+    else (if is_ascii_digit byte then number_at place (byte ∷ bytes)
+    else sign_at place byte)
+
+abbrev pub with_first : Token → Result (List Token) TokenFault → Result (List Token) TokenFault
+with_first token (Ok tokens) = Ok (token ∷ tokens)
+with_first token (Err fault) = Err fault
+
+abbrev pub and_then : {A B : Type 0} → Result A TokenFault → (A → Result B TokenFault) → Result B TokenFault
+and_then (Ok x) f = f x
+and_then (Err e) f = Err e
+
+-- The tokens of the bytes from a place on, where the first `skip` bytes still belong to the token before.
+unfoldable pub tokens_from : ℕ → ℕ → List ℕ → Result (List Token) TokenFault
+tokens_from skip place [] = Ok []
+tokens_from (suc skip) place (byte ∷ bytes) = tokens_from skip (place + 1) bytes
+tokens_from zero place (byte ∷ bytes) =
+    if is_blank byte then tokens_from 0 (place + 1) bytes
+    else and_then (token_at place (byte ∷ bytes)) (λ token. with_first token (tokens_from (token.end - (place + 1)) (place + 1) bytes))
+
+abbrev pub tokens_of : List ℕ → Result (List Token) TokenFault
+tokens_of line = tokens_from 0 0 line
+
+-- the answer of a call: these tokens or this offence, unless memory was short
+abbrev pub GivesTokens : Result (List Token) TokenFault → Result (List Token) TokenFault → Type 0
+GivesTokens (Ok tokens) read = read ≡ Ok tokens
+GivesTokens (Err OutOfMemory) read = Unit {0}
+GivesTokens (Err fault) read = read ≡ Err fault

@@ -1,0 +1,123 @@
+//! A line is cut into tokens.
+
+ghost use Rattle.std.specs.Prelude.{◌≡◌, ◌<◌, ◌≤◌, ◌+◌, ◌^◌, length, drop, IfOk, ℕ};
+ghost use Rattle.std.specs.List.{prefix_len};
+ghost use Rattle.std.specs.Char.{is_ascii_digit};
+ghost use Rattle.cgs_tokens.specs.Tokens.{tokens_of, GivesTokens, token_at, spanned, is_blank, is_word};
+
+use crate::token::{Token, TokenFault, TokenKind};
+use cgs_list::ItemList;
+use std::alloc::Global;
+
+const LONGEST_NAME: usize = 32;
+
+const LONGEST_NUMBER: usize = 18;
+
+/// The tokens of a line, in order; no two of them share a byte.
+pub type TokenList = ItemList<Token>;
+
+/// The tokens of a line that stands without its line end. Blanks and tabs end a token and belong to none. It errs at the
+/// first offence, or where memory is short.
+pub fn tokens(alloc: Global, line: &[u8]) -> Result<TokenList, TokenFault>
+    requires { length line.now ≤ 67108864 }
+    ensures { GivesTokens result (tokens_of line.now) }
+{
+    let mut list = ItemList::new(alloc);
+    let mut at: u32 = 0;
+    while (at as usize) < line.len() {
+        if is_blank(line[at as usize]) {
+            at += 1;
+        } else {
+            let token = token_at(line, at)?;
+            list.push(token)?;
+            at = token.end;
+        }
+    }
+    Ok(list)
+}
+
+fn is_blank(byte: u8) -> bool
+    ensures { result ≡ is_blank byte }
+{
+    byte == b' ' || byte == b'\t'
+}
+
+fn is_word(byte: u8) -> bool
+    ensures { result ≡ is_word byte }
+{
+    byte.is_ascii_alphanumeric() || byte == b'_'
+}
+
+// The token that begins at a place of the line.
+#[tactic(auto, unfolding(crate::specs::Tokens::token_at, crate::specs::Tokens::name_at, crate::specs::Tokens::number_at, crate::specs::Tokens::sign_at))]
+fn token_at(line: &[u8], at: u32) -> Result<Token, TokenFault>
+    requires place { at < length line.now }
+    requires short { length line.now ≤ 67108864 }
+    ensures token { result ≡ token_at at (drop at line.now) }
+    ensures within { IfOk result (λ token. (at < token.end) × (token.end ≤ length line.now)) }
+{
+    token_of(&line[at as usize..], at)
+}
+
+// The token that these bytes, the line from that place on, begin with.
+#[tactic(auto, unfolding(crate::specs::Tokens::token_at, crate::specs::Tokens::name_at, crate::specs::Tokens::number_at, crate::specs::Tokens::sign_at))]
+fn token_of(bytes: &[u8], at: u32) -> Result<Token, TokenFault>
+    requires { at + length bytes.now ≤ 67108864 }
+    ensures token { result ≡ token_at at bytes.now }
+    ensures within { IfOk result (λ token. (at < token.end) × (token.end ≤ at + length bytes.now)) }
+{
+    let [byte, ..] = bytes else {
+        return Err(TokenFault::Byte(at));
+    };
+    if byte.is_ascii_alphabetic() {
+        let len = name_len(bytes);
+        if len > LONGEST_NAME {
+            return Err(TokenFault::LongName(at));
+        }
+        return Ok(token(TokenKind::Name, at, len as u32));
+    }
+    if byte.is_ascii_digit() {
+        let len = number_len(bytes);
+        if len > LONGEST_NUMBER {
+            return Err(TokenFault::Literal(at));
+        }
+        return Ok(token(TokenKind::Number, at, len as u32));
+    }
+    match *byte {
+        b'+' => Ok(token(TokenKind::Plus, at, 1)),
+        b'-' => Ok(token(TokenKind::Minus, at, 1)),
+        b'*' => Ok(token(TokenKind::Times, at, 1)),
+        b'^' => Ok(token(TokenKind::Power, at, 1)),
+        _ => Err(TokenFault::Byte(at)),
+    }
+}
+
+fn token(kind: TokenKind, start: u32, len: u32) -> Token
+    requires { start + len < 2 ^ 32 }
+    ensures { result ≡ spanned kind start len }
+{
+    Token {
+        kind,
+        start,
+        end: start + len,
+    }
+}
+
+// How many bytes of a name come first.
+fn name_len(bytes: &[u8]) -> usize
+    ensures len { result ≡ prefix_len is_word bytes.now }
+    ensures within { result ≤ length bytes.now }
+{
+    bytes.iter().take_while(|byte| is_word(**byte)).count()
+}
+
+// How many digits come first.
+fn number_len(bytes: &[u8]) -> usize
+    ensures len { result ≡ prefix_len is_ascii_digit bytes.now }
+    ensures within { result ≤ length bytes.now }
+{
+    bytes
+        .iter()
+        .take_while(|byte| byte.is_ascii_digit())
+        .count()
+}

@@ -1,0 +1,75 @@
+-- What the words of the command line ask for.
+use Rattle.std.specs.Prelude.{ℕ, Bool, false, List, [], ◌∷◌, ◌&&◌, ◌==◌, if◌then◌else◌, nat_le, codes, bytes_eq, Some, None, Result, Ok, Err}
+use Rattle.std.specs.Char.{is_ascii_digit}
+use Rattle.std.specs.Option.{unwrap_or, is_some}
+use Rattle.std.specs.List.{list_all}
+use Rattle.std.specs.Str.Parse.{digits_value}
+use Rattle.cgs_words.specs.declared.options.Name.{Name}
+use Rattle.cgs_words.specs.declared.options.Name.TheVariants.{Budget, Depth}
+use Rattle.cgs_words.specs.declared.options.Options.{Options}
+use Rattle.cgs_words.specs.declared.plan.Command.{Command}
+use Rattle.cgs_words.specs.declared.plan.Command.TheVariants.{Check}
+use Rattle.cgs_words.specs.declared.plan.Plan.{Plan}
+use Rattle.cgs_words.specs.declared.plan.WordFault.{WordFault}
+use Rattle.cgs_words.specs.declared.plan.WordFault.TheVariants as fault
+
+abbrev pub and_then : {A B : Type 0} → Result A WordFault → (A → Result B WordFault) → Result B WordFault
+and_then (Ok x) f = f x
+and_then (Err fault) f = Err fault
+
+-- digits alone, and 0 first only in `0` itself
+abbrev pub is_numeral : List ℕ → Bool
+is_numeral [] = false
+is_numeral (digit ∷ []) = is_ascii_digit digit
+is_numeral (digit ∷ digits) = if digit == 48 then false else list_all is_ascii_digit (digit ∷ digits)
+
+-- a number from the least to the most
+abbrev pub number_in : ℕ → ℕ → List ℕ → Result ℕ WordFault
+number_in least most word =
+    if is_numeral word && nat_le least (digits_value 10 word) && nat_le (digits_value 10 word) most then Ok (digits_value 10 word) else Err fault.Value
+
+abbrev pub no_options : Options
+no_options = record { budget = None; depth = None }
+
+abbrev pub option_of : List ℕ → Result Name WordFault
+option_of word =
+    if bytes_eq word (codes "--budget") then Ok Budget
+    else (if bytes_eq word (codes "--depth") then Ok Depth
+    else Err fault.Option)
+
+abbrev pub is_given : Options → Name → Bool
+is_given options Budget = is_some options.budget
+is_given options Depth = is_some options.depth
+
+-- an option that was not given before
+abbrev pub new_option : Options → List ℕ → Result Name WordFault
+new_option options word = and_then (option_of word) (λ name. if is_given options name then Err fault.Repeat else Ok name)
+
+-- the options with the value of one more
+abbrev pub with_value : Options → Name → List ℕ → Result Options WordFault
+with_value options Budget word = and_then (number_in 1 1000000000000 word) (λ n. Ok (record options { budget = Some n }))
+with_value options Depth word = and_then (number_in 1 255 word) (λ n. Ok (record options { depth = Some n }))
+
+unfoldable mutual
+  -- An option is expected.
+  pub options_of : Options → List (List ℕ) → Result Options WordFault
+  options_of options [] = Ok options
+  options_of options (word ∷ words) = and_then (new_option options word) (λ name. value_of options name words)
+
+  -- The value of an option is expected.
+  pub value_of : Options → Name → List (List ℕ) → Result Options WordFault
+  value_of options name [] = Err fault.Value
+  value_of options name (word ∷ words) = and_then (with_value options name word) (λ next. options_of next words)
+
+abbrev pub command_of : List ℕ → Result Command WordFault
+command_of word = if bytes_eq word (codes "check") then Ok Check else Err fault.Command
+
+-- a command with these options, and with the usual values of those that were not given
+abbrev pub plan_with : Command → Options → Plan
+plan_with command options =
+    record { command = command; workers = 1; budget = unwrap_or options.budget 10000000; depth = unwrap_or options.depth 64; history = false }
+
+-- the first word is a command, and the others are its options
+abbrev pub plan_of : List (List ℕ) → Result Plan WordFault
+plan_of [] = Err fault.NoWord
+plan_of (word ∷ words) = and_then (command_of word) (λ command. and_then (options_of no_options words) (λ options. Ok (plan_with command options)))

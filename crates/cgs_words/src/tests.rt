@@ -1,0 +1,67 @@
+//! Plans and faults of some command lines.
+
+use crate::{Command, Plan, WordFault, read_words};
+use cgs_io::{Word, WordList};
+use std::alloc::{AllocError, Global};
+use std::test::Fail;
+
+// The words of a line, which blanks separate.
+fn words_of(alloc: Global, line: &str) -> Result<WordList, AllocError> {
+    let mut words = WordList::new(alloc);
+    for text in line.split_ascii_whitespace() {
+        let mut word = Word::new(alloc);
+        word.extend_from_slice(text.as_bytes())?;
+        words.push(word)?;
+    }
+    Ok(words)
+}
+
+fn plan(budget: u64, depth: u32) -> Plan {
+    Plan {
+        command: Command::Check,
+        workers: 1,
+        budget,
+        depth,
+        history: false,
+    }
+}
+
+#[test]
+fn plans(rt: HostRuntime) -> Result<(), Fail> {
+    let rows = [
+        ("", Err(WordFault::NoWord)),
+        ("solv", Err(WordFault::Command)),
+        ("--help", Err(WordFault::Command)),
+        ("check", Ok(plan(10000000, 64))),
+        ("check --depth 255 --budget 7", Ok(plan(7, 255))),
+        (
+            "check --budget 1000000000000 --depth 1",
+            Ok(plan(1000000000000, 1)),
+        ),
+        ("check --budget 0", Err(WordFault::Value)),
+        ("check --budget 1000000000001", Err(WordFault::Value)),
+        (
+            "check --budget 99999999999999999999999",
+            Err(WordFault::Value),
+        ),
+        ("check --depth 0", Err(WordFault::Value)),
+        ("check --depth 07", Err(WordFault::Value)),
+        ("check --budget +7", Err(WordFault::Value)),
+        ("check --depth 256", Err(WordFault::Value)),
+        ("check --depth", Err(WordFault::Value)),
+        ("check --depth --budget", Err(WordFault::Value)),
+        ("check --depth 1 --depth 1", Err(WordFault::Repeat)),
+        ("check --depth 2 --depth 3", Err(WordFault::Repeat)),
+        ("check --depth 1 --depth", Err(WordFault::Repeat)),
+        ("check --depth 1 --depth x", Err(WordFault::Repeat)),
+        ("check --workers 2", Err(WordFault::Option)),
+        ("check --history", Err(WordFault::Option)),
+        ("check check", Err(WordFault::Option)),
+        ("check --fast", Err(WordFault::Option)),
+    ];
+    for (line, want) in rows {
+        let words = words_of(rt.alloc(), line)?;
+        assert_eq!(rt; read_words(&words), want, "at {line}");
+    }
+    Ok(())
+}

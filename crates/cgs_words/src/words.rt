@@ -1,0 +1,47 @@
+//! A plan is read from the words.
+
+ghost use Rattle.std.specs.Prelude.{◌≡◌};
+ghost use Rattle.cgs_words.specs.Words.{plan_of, command_of, plan_with};
+
+use crate::options::{Options, read_options};
+use crate::plan::{Command, Plan, WordFault};
+use cgs_io::WordList;
+
+const BUDGET: u64 = 10_000_000;
+
+const DEPTH: u32 = 64;
+
+/// The plan that the words after the program's name ask for, or their first fault.
+pub fn read_words(words: &WordList) -> Result<Plan, WordFault>
+    ensures { result ≡ plan_of words.now }
+{
+    let Some((word, rest)) = words.as_slice().split_first() else {
+        return Err(WordFault::NoWord);
+    };
+    let command = read_command(word.as_slice())?;
+    let options = read_options(rest)?;
+    Ok(plan(command, options))
+}
+
+fn read_command(word: &[u8]) -> Result<Command, WordFault>
+    ensures { result ≡ command_of word.now }
+{
+    if word == b"check".as_slice() {
+        Ok(Command::Check)
+    } else {
+        Err(WordFault::Command)
+    }
+}
+
+// The plan with these options, and with the usual values of those that were not given.
+fn plan(command: Command, options: Options) -> Plan
+    ensures { result ≡ plan_with command options }
+{
+    Plan {
+        command,
+        workers: 1,
+        budget: options.budget.unwrap_or(BUDGET),
+        depth: options.depth.unwrap_or(DEPTH),
+        history: false,
+    }
+}

@@ -1,4 +1,4 @@
--- The reduced Gröbner basis of x^2 - 1 and x*y - 1 modulo 7, checked by the criterion.
+-- The reduced Gröbner basis of x^2 - 1 and x*y - 1 modulo 7, checked by the criterion, and a list that is none.
 use Rattle.std.proofs.Common.{ℕ, zero, suc, ◌≡◌, ◌<◌, true, List, [], ◌∷◌, length, get_or, refl, arith}
 use Rattle.cgs_exps.specs.Monomial.{divides}
 use Rattle.cgs_order.specs.TermOrder.{key, compared}
@@ -10,7 +10,7 @@ use Rattle.cgs_poly.proofs.CanonicalLemmas.{canonical_alike}
 use Rattle.cgs_algebra.specs.Combination.{summand, IsMember}
 use Rattle.cgs_algebra.specs.Groebner.{AreMonic, IsGroebnerBasis, DividesNone, lead_at}
 use Rattle.cgs_algebra.specs.SPolynomial.{HasLcmRepresentation}
-use Rattle.cgs_algebra.specs.Examples.{seven, x_squared_less_one, xy_less_one, x_less_y, y_squared_less_one, generators, basis, ReducedExample}
+use Rattle.cgs_algebra.specs.Examples.{seven, x_squared_less_one, xy_less_one, x_less_y, y_squared_less_one, generators, basis, ReducedExample, ZeroTermIsRefused}
 use Rattle.cgs_algebra.proofs.GroebnerLemmas.{complete_groebner}
 use Rattle.cgs_algebra.proofs.CriterionLemmas.{coprime_criterion}
 
@@ -107,3 +107,6 @@ reduced_example = (
   },
   (refl, tt),
 )
+
+pub zero_term_refused : ZeroTermIsRefused
+zero_term_refused F h = absurd (omega (arith, (h.canonical 0 (omega arith)).0))

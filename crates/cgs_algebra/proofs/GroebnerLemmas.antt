@@ -15,6 +15,7 @@ pub complete_groebner : (ring : Ring) (G F : List (List Term)) → 0 < ring.modu
     → ((i : ℕ) → i < length G → IsMember ring F (get_or G i [])) → ((i : ℕ) → i < length F → IsMember ring G (get_or F i []))
     → ((i j : ℕ) → i < j → j < length G → HasLcmRepresentation ring G i j) → IsGroebnerBasis ring G F
 complete_groebner ring G F pos ok g_inside f_inside pairs = record {
+  canonical = ok.canonical;
   members = g_inside;
   not_zero = λ i h. monic_not_empty (get_or G i []) (ok.monic i h);
   leads = λ f k member some. buchberger ring G pos ok pairs f k (member_of_members ring F G pos f_inside f member) some;

@@ -1,15 +1,18 @@
--- The members of an ideal: closed under sums and multiples, and under the ideals of members.
+-- The members of an ideal: closed under sums, multiples and products, and under the ideals of members.
 use Rattle.std.proofs.Common.{ℕ, ◌≡◌, ◌*◌, ◌%◌, ◌<◌, List, [], ◌∷◌, ◌++◌, length, get_or, replicate, refl, sym, ap, ◌∙◌}
 use Rattle.std.proofs.lemmas.List.{length-replicate, append-nil}
 use Rattle.cgs_poly.specs.declared.ring.Ring.{Ring}
 use Rattle.cgs_poly.specs.Polynomial.{Term, places, total, IsOfRing}
-use Rattle.cgs_poly.specs.Product.{multiple}
+use Rattle.cgs_poly.specs.Product.{multiple, all_products}
 use Rattle.cgs_poly.proofs.SumLemmas.{Alike, alike_same, alike_trans, alike_append, alike_from_coefficients, coefficients_from_alike}
-use Rattle.cgs_poly.proofs.MultipleLemmas.{multiple_one}
+use Rattle.cgs_poly.proofs.MultipleLemmas.{multiple_one, total_products_comm}
 use Rattle.cgs_algebra.specs.Combination.{Summand, summand, combined, IsCombination, IsMember}
 use Rattle.cgs_algebra.proofs.CombinationLemmas.{combined_append, combination_append, shifted_summands, combined_shifted, combination_shifted, scaled_summands, total_scaled_summands, combination_scaled}
 use Rattle.cgs_poly.proofs.ProductLemmas.{alike_multiple}
 use Rattle.cgs_field.proofs.ModularLemmas.{mod_mul}
+
+pub products_comm : (p : ℕ) (f g : List Term) → Alike p (all_products f g) (all_products g f)
+products_comm p f g = record { under = λ w. ap (λ n. n % p) (total_products_comm w f g) }
 
 module _ (ring : Ring) (F : List (List Term)) (pos : 0 < ring.modulus) where
   -- what a member's combination comes to
@@ -35,6 +38,17 @@ module _ (ring : Ring) (F : List (List Term)) (pos : 0 < ring.modulus) where
   multiple_member c t f l h =
       member_from_alike (shifted_summands c t h.summands) (combination_shifted ring F c t h.summands l h.combination)
       (rw (combined_shifted F c t h.summands) (alike_multiple c t (member_alike h)))
+
+  -- a polynomial times a member, and a member times a polynomial
+
+  pub product_member : (f g : List Term) → IsOfRing ring f → IsMember ring F g → IsMember ring F (all_products f g)
+  product_member [] g h m = zero_member
+  product_member (x ∷ f) g h m =
+      let t : List Term = multiple x.coefficient x.exponents g in
+      sum_member t (all_products f g) (multiple_member x.coefficient x.exponents g h.0 m) (product_member f g h.1 m)
+
+  pub member_product : (f g : List Term) → IsOfRing ring f → IsMember ring F g → IsMember ring F (all_products g f)
+  member_product f g h m = same_member (products_comm ring.modulus g f) (product_member f g h m)
 
   -- g comes to c times f
   pub scaled_member : (c : ℕ) (f g : List Term) → ((w : List ℕ → ℕ) → total w g % ring.modulus ≡ (c * total w f) % ring.modulus) → IsMember ring F f → IsMember ring F g

@@ -1,4 +1,4 @@
--- An ideal has one reduced Gröbner basis with ascending leads (Cox, Little, O'Shea, chapter 2, section 7, theorem 5).
+-- An ideal has at most one reduced Gröbner basis with ascending leads (Cox, Little, O'Shea, chapter 2, section 7, theorem 5).
 use Rattle.std.proofs.Common.{ℕ, ◌≡◌, ◌+◌, ◌-◌, ◌*◌, ◌%◌, ◌<◌, ◌⊎◌, inl, inr, true, List, [], ◌∷◌, ◌++◌, length, get_or, replicate, refl, sym, ap, ◌∙◌, subst, arith}
 use Rattle.std.proofs.Math.Nat.{zero-mod}
 use Rattle.std.proofs.lemmas.Bool.{cases_eq}

@@ -5,7 +5,7 @@ use Rattle.cgs_order.specs.declared.kind.Kind.TheVariants.{Lex}
 use Rattle.cgs_poly.specs.declared.ring.Ring.{Ring}
 use Rattle.cgs_poly.specs.Polynomial.{Term, term, canonical}
 use Rattle.cgs_algebra.specs.Combination.{summand, combined}
-use Rattle.cgs_algebra.specs.Groebner.{IsReduced, IsAscending}
+use Rattle.cgs_algebra.specs.Groebner.{IsGroebnerBasis, IsReduced, IsAscending}
 use Rattle.cgs_algebra.specs.SPolynomial.{s_terms}
 
 abbrev pub seven : Ring
@@ -36,6 +36,14 @@ basis = y_squared_less_one ∷ x_less_y ∷ []
 -- the reduced Gröbner basis of x^2 - 1 and x*y - 1 is y^2 - 1 and x - y
 abbrev pub ReducedExample : Type 0
 ReducedExample = IsReduced seven basis generators × IsAscending seven basis
+
+-- the term 0*1, which is no polynomial: the polynomial 0 has no terms
+abbrev pub zero_term : List Term
+zero_term = term 0 (0 ∷ 0 ∷ []) ∷ []
+
+-- a list of it alone is no Gröbner basis, though it is a member of each ideal and its monomial 1 divides each lead
+abbrev pub ZeroTermIsRefused : Type 0
+ZeroTermIsRefused = (F : List (List Term)) → ¬ (IsGroebnerBasis seven (zero_term ∷ []) F)
 
 -- the S-polynomial of x^2 - 1 and x*y - 1 is x - y
 pub s_polynomial_example : canonical seven (s_terms seven x_squared_less_one xy_less_one) ≡ x_less_y

@@ -16,8 +16,9 @@ lead_at G i = lead (slice_index_or G i [])
 abbrev pub SomeLeadDivides : List (List Term) → List ℕ → Type 0
 SomeLeadDivides G m = (i : ℕ) × (i < length G) × IsTrue (divides (lead_at G i) m)
 
--- G is a Gröbner basis of the ideal of F
+-- G is a Gröbner basis of the ideal of F: polynomials of that ideal, none of them 0, such that each lead in the ideal is divided by one of theirs
 pub record IsGroebnerBasis (ring : Ring) (G F : List (List Term)) : Type 0 where
+  pub canonical : (i : ℕ) → i < length G → IsCanonical ring (slice_index_or G i [])
   pub members : (i : ℕ) → i < length G → IsMember ring F (slice_index_or G i [])
   pub not_zero : (i : ℕ) → i < length G → ¬ (slice_index_or G i [] ≡ [])
   pub leads : (f : List Term) → IsCanonical ring f → IsMember ring F f → ¬ (f ≡ []) → SomeLeadDivides G (lead f)

@@ -29,9 +29,9 @@ use Rattle.cgs_divide.specs.Autoreduction.{IsDividedAt}
 use Rattle.cgs_divide.proofs.QuotientCombinationLemmas.{summands_of, division_combination, division_sum, division_below}
 
 -- a monic polynomial with the lead m
-record HasLead (m : List ℕ) (f : List Term) : Type 0 where
-  lead_is : lead f ≡ m
-  one : lead_coefficient f ≡ 1
+pub record HasLead (m : List ℕ) (f : List Term) : Type 0 where
+  pub lead_is : lead f ≡ m
+  pub one : lead_coefficient f ≡ 1
 
 -- a polynomial with the coefficient 1 at m that is below whatever is above m
 lead_found : (ring : Ring) (m : List ℕ) (f : List Term) → 1 < ring.modulus → length m ≡ places ring → IsCanonical ring f
@@ -72,7 +72,7 @@ module _ (ring : Ring) (pos : 0 < ring.modulus) (D : List (List Term)) (ok : Are
           absurd (compared_not_self (order_of ring) t (b t (compared_back (order_of ring) t m e)).0)
 
   -- a division by polynomials whose leads do not divide the lead keeps it
-  lead_kept : 1 < ring.modulus → (x : Term) (f remainder : List Term) (quotients : List (List Term)) → IsCanonical ring (x ∷ f) → x.coefficient ≡ 1
+  pub lead_kept : 1 < ring.modulus → (x : Term) (f remainder : List Term) (quotients : List (List Term)) → IsCanonical ring (x ∷ f) → x.coefficient ≡ 1
       → HasDivided ring D (x ∷ f) remainder quotients
       → ((j : ℕ) → j < length D → divides (lead_at D j) x.exponents ≡ true → ⊥) → HasLead x.exponents remainder
   lead_kept two x f remainder quotients h one d none =
@@ -88,8 +88,14 @@ module _ (ring : Ring) (pos : 0 < ring.modulus) (D : List (List Term)) (ok : Are
       let v : total (only m) remainder % ring.modulus ≡ 1 = ap (λ n. n % ring.modulus) (sym s) ∙ (sym e ∙ (ap (λ n. n % ring.modulus) t ∙ mod-eq_of_lt two)) in
       lead_found ring m remainder two h.2 d.canonical_remainder (λ n o. (d.below n o).1) v
 
+  pub division_keeps_lead : 1 < ring.modulus → (f remainder : List Term) (quotients : List (List Term)) → IsCanonical ring f → lead_coefficient f ≡ 1
+      → HasDivided ring D f remainder quotients → ((j : ℕ) → j < length D → divides (lead_at D j) (lead f) ≡ true → ⊥)
+      → (lead remainder ≡ lead f) × (lead_coefficient remainder ≡ 1)
+  division_keeps_lead two [] remainder quotients h one d none = absurd (omega arith)
+  division_keeps_lead two (x ∷ f) remainder quotients h one d none = let k = lead_kept two x f remainder quotients h one d none in (k.lead_is, k.one)
+
   -- what is left of a member after a division by members is a member
-  remainder_member : (F : List (List Term)) → ((j : ℕ) → j < length D → IsMember ring F (get_or D j [])) → (f remainder : List Term) (quotients : List (List Term))
+  pub remainder_member : (F : List (List Term)) → ((j : ℕ) → j < length D → IsMember ring F (get_or D j [])) → (f remainder : List Term) (quotients : List (List Term))
       → HasDivided ring D f remainder quotients
       → IsMember ring F f → IsMember ring F remainder
   remainder_member F inside f remainder quotients d member =
@@ -184,6 +190,7 @@ module _ (ring : Ring) (F K R : List (List Term)) (two : 1 < ring.modulus) (mini
   result_minimal : IsMinimal ring R F
   result_minimal = record {
     groebner = record {
+      canonical = result_monic.canonical;
       members = λ i h. (settled i (within i h)).1;
       not_zero = λ i h. monic_not_empty (get_or R i []) (settled i (within i h)).0.one;
       leads = λ f k member some.

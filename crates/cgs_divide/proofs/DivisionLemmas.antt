@@ -12,7 +12,7 @@ use Rattle.cgs_poly.specs.Polynomial.{Term, term, places, order_of, total, IsOfR
 use Rattle.cgs_poly.specs.Product.{multiple, lead, lead_coefficient}
 use Rattle.cgs_poly.proofs.SumLemmas.{alike_same, alike_from_coefficients, coefficients_from_alike, total_append}
 use Rattle.cgs_poly.proofs.CanonicalLemmas.{all_below_canonical, AllBelow, all_below_append, canonical_of_ring, is_canonical, canonical_alike, canonical_same, canonical_starts, canonical_low, append_of_ring, append_low, starts_lower}
-use Rattle.cgs_poly.proofs.ProductLemmas.{total_multiple, multiple_of_ring}
+use Rattle.cgs_poly.proofs.ProductLemmas.{total_multiple, multiple_of_ring, low_any}
 use Rattle.cgs_poly.proofs.MultipleLemmas.{multiple_falls}
 use Rattle.cgs_poly.proofs.ProductOrderLemmas.{compared_shift}
 use Rattle.cgs_algebra.specs.Groebner.{AreMonic, lead_at}
@@ -155,11 +155,7 @@ module _ (ring : Ring) (G : List (List Term)) (pos : 0 < ring.modulus) (ok : Are
   rest_low : is_too_high (multiple x.coefficient t g) ≡ false → HasLowDegrees (x ∷ f) → HasLowDegrees rest
   rest_low low k =
       canonical_low ring ((x ∷ f) ++ multiple (ring.modulus - x.coefficient) t g)
-      (append_low (x ∷ f) (multiple (ring.modulus - x.coefficient) t g) k (same_low x.coefficient (ring.modulus - x.coefficient) t g (not_too_high (multiple x.coefficient t g) low)))
-    where
-      same_low : (c d : ℕ) (t : List ℕ) (g : List Term) → HasLowDegrees (multiple c t g) → HasLowDegrees (multiple d t g)
-      same_low c d t [] k = tt
-      same_low c d t (z ∷ g) k = (k.0, same_low c d t g k.1)
+      (append_low (x ∷ f) (multiple (ring.modulus - x.coefficient) t g) k (low_any x.coefficient (ring.modulus - x.coefficient) t g (not_too_high (multiple x.coefficient t g) low)))
 
   t_low : HasLowDegrees (x ∷ f) → degree t ≤ greatest_degree
   t_low k = omega (arith, k.0, degree_quotient x.exponents (lead g) (h.2 ∙ sym lead_long) divisible)

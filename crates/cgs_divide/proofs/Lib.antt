@@ -4,4 +4,10 @@ pub mod QuotientCombinationLemmas
 pub mod AutoreductionLemmas
 pub mod RunLemmas
 pub mod ResumedLemmas
+pub mod RestLemmas
 pub mod StepLemmas
+pub mod MonicLemmas
+pub mod MinimalLemmas
+pub mod AutoreductionRunLemmas
+pub mod PlaceLemmas
+pub mod LowLemmas

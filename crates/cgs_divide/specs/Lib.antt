@@ -1,6 +1,9 @@
 pub mod DivisionRun
 pub mod Division
+pub mod Rest
 pub mod Autoreduction
+pub mod AutoreductionRun
+pub mod Places
 pub mod Laws
 pub mod Examples
 pub mod Stop

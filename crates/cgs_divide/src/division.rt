@@ -2,14 +2,16 @@
 
 ghost use Rattle.std.specs.Prelude.{◌≡◌, ◌<◌, ◌≤◌, ◌+◌, ◌-◌, ◌++◌, ℕ, [], ◌∷◌, true, false, length, slice_index_or, replicate, IsTrue, IsNone, IfSome, IfOk, OnOk, OnErr, IsErrOf, IfErr};
 ghost use Rattle.cgs_exps.specs.Monomial as monomial;
-ghost use Rattle.cgs_poly.specs.Polynomial.{IsRing, IsPoly, places, term};
+ghost use Rattle.cgs_poly.specs.Polynomial.{IsRing, IsPoly, places, term, greatest_degree};
 ghost use Rattle.cgs_poly.specs.Product.{lead, lead_coefficient, multiple};
 ghost use Rattle.cgs_poly.specs.Draft.{HaveLength};
 ghost use Rattle.cgs_algebra.specs.Groebner.{AreMonic};
 ghost use Rattle.cgs_divide.specs.DivisionRun.{divided, done, out_of_budget, out_of_degree, is_too_high};
 ghost use Rattle.cgs_divide.specs.DivisionRun as run;
 ghost use Rattle.cgs_divide.specs.Division.{HasDivided};
+ghost use Rattle.cgs_divide.specs.Rest.{left, IsRest};
 
+use crate::rest::Rest;
 use crate::stop::Stop;
 use cgs_exps::{MAX_PLACES, divides, quotient_into};
 use cgs_poly::{Poly, PolyList, Ring, Term};
@@ -43,23 +45,24 @@ pub fn divide(
     ensures quotients { IfOk result (λ d. (i : ℕ) → i < length divisors.now → IsPoly ring.now (slice_index_or d.quotients i [])) }
     ensures budget { IsErrOf result Stop.Budget → divided ring.now divisors.now fuel.old f.now ≡ out_of_budget fuel.new }
     ensures degree { IsErrOf result Stop.Degree → divided ring.now divisors.now fuel.old f.now ≡ out_of_degree fuel.new }
-    ensures memory { IsErrOf result Stop.OutOfMemory → fuel.new ≤ fuel.old }
+    ensures units { fuel.new ≤ fuel.old }
 {
-    let mut rest = f.copy()?;
+    let mut rest = Rest::whole(alloc);
+    let mut remainder = Poly::zero(alloc);
     let mut quotients = zeros(alloc, divisors.len())?;
-    let mut at = 0;
-    while at < rest.len() {
-        let leading = rest.term(at);
+    while let Some(leading) = rest.lead(f) {
         match first_divisor(divisors, leading.exponents) {
             None => {
                 spend(fuel, 1)?;
-                at += 1;
+                remainder.push(leading.coefficient, leading.exponents)?;
+                rest.pass_lead(f);
             }
             Some(i) => {
                 let divisor = divisors.get(i);
                 rest = reduced(
                     alloc,
                     ring,
+                    f,
                     &rest,
                     &leading,
                     divisor,
@@ -70,7 +73,7 @@ pub fn divide(
         }
     }
     Ok(Division {
-        remainder: rest,
+        remainder,
         quotients: list_of(alloc, quotients)?,
     })
 }
@@ -113,8 +116,8 @@ fn first_divisor(divisors: &PolyList, m: &[u16]) -> Option<usize>
     None
 }
 
-// Takes the cost of a step from the units that are left.
-fn spend(fuel: &mut u64, cost: u64) -> Result<(), Stop>
+/// Takes the cost of a step from the units that are left. It errs where the step costs more, and takes nothing then.
+pub fn spend(fuel: &mut u64, cost: u64) -> Result<(), Stop>
     ensures ok { OnOk result ((cost ≤ fuel.old) × (fuel.new ≡ fuel.old - cost)) }
     ensures budget { OnErr result ((fuel.old < cost) × (fuel.new ≡ fuel.old)) }
     ensures err { IfErr result (λ stop. stop ≡ Stop.Budget) }
@@ -126,27 +129,30 @@ fn spend(fuel: &mut u64, cost: u64) -> Result<(), Stop>
     Ok(())
 }
 
-// What is left of `rest` by the step that takes its term `leading` with a divisor; the quotient gets a term.
+// What is left of `rest` by the step that takes its leading term with a divisor; the quotient gets a term.
 fn reduced(
     alloc: Global,
     ring: &Ring,
-    rest: &Poly,
+    f: &Poly,
+    rest: &Rest,
     leading: &Term<'_>,
     divisor: &Poly,
     quotient: &mut Poly,
     fuel: &mut u64,
-) -> Result<Poly, Stop>
+) -> Result<Rest, Stop>
     requires ring { IsRing ring.now }
-    requires poly { IsPoly ring.now rest.now }
+    requires poly { IsPoly ring.now f.now }
+    requires rest { IsRest ring.now f.now rest.now }
     requires positive { 0 < leading.now.coefficient }
     requires below { leading.now.coefficient < ring.now.modulus }
     requires places { length leading.now.exponents.now ≡ places ring.now }
+    requires low { monomial.degree leading.now.exponents.now ≤ greatest_degree }
     requires divisor { IsPoly ring.now divisor.now }
     requires some { 0 < length divisor.now }
     requires divides { IsTrue (monomial.divides (lead divisor.now) leading.now.exponents.now) }
     requires lengths { HaveLength (places ring.now) quotient.old }
-    ensures ok { IfOk result (λ h. h ≡ run.less_multiple ring.now rest.now leading.now.coefficient (monomial.quotient leading.now.exponents.now (lead divisor.now)) divisor.now) }
-    ensures poly { IfOk result (λ h. IsPoly ring.now h) }
+    ensures ok { IfOk result (λ h. left h f.now ≡ run.less_multiple ring.now (left rest.now f.now) leading.now.coefficient (monomial.quotient leading.now.exponents.now (lead divisor.now)) divisor.now) }
+    ensures rest { IfOk result (λ h. IsRest ring.now f.now h) }
     ensures quotient { OnOk result (quotient.new ≡ quotient.old ++ term leading.now.coefficient (monomial.quotient leading.now.exponents.now (lead divisor.now)) ∷ []) }
     ensures paid { OnOk result ((length divisor.now ≤ fuel.old) × (fuel.new ≡ fuel.old - length divisor.now)) }
     ensures low { OnOk result (is_too_high (multiple leading.now.coefficient (monomial.quotient leading.now.exponents.now (lead divisor.now)) divisor.now) ≡ false) }
@@ -159,6 +165,6 @@ fn reduced(
     let t = &mut room[..leading.exponents.len()];
     quotient_into(leading.exponents, divisor.term(0).exponents, t);
     quotient.push(leading.coefficient, t)?;
-    let difference = Poly::sub_multiple(alloc, ring, rest, leading.coefficient, t, divisor)?;
+    let difference = rest.less_multiple(alloc, ring, f, leading.coefficient, t, divisor)?;
     Ok(difference)
 }

@@ -7,12 +7,18 @@
 //! Read first `divide`, then `divided` (specs/DivisionRun) and `HasDivided` (specs/Division).
 #![tactic(auto)]
 
+mod autoreduction;
 mod division;
 mod laws;
+mod rest;
 mod stop;
 
-pub use division::{Division, divide};
-pub use laws::{autoreduction_reduces, division_divides, division_examples};
+pub use autoreduction::autoreduce;
+pub use division::{Division, divide, spend};
+pub use laws::{
+    autoreduction_reduces, autoreduction_run_reduces, division_divides, division_examples,
+    division_keeps_lead,
+};
 pub use stop::Stop;
 
 #[cfg(test)]

@@ -1,3 +1,4 @@
 pub mod ModularLemmas
 pub mod PrimeLemmas
 pub mod EuclidLemmas
+pub mod InverseLemmas

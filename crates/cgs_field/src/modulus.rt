@@ -2,6 +2,7 @@
 
 ghost use Rattle.std.specs.Prelude.{◌≡◌, ◌+◌, ◌-◌, ◌*◌, ◌%◌, ◌<◌, SomeIff};
 ghost use Rattle.cgs_field.specs.Prime.{IsModulus, IsPrime};
+ghost use Rattle.cgs_field.specs.Inverse.{inverse};
 
 use crate::elem::Elem;
 use crate::euclid::inverse_modulo;
@@ -108,6 +109,7 @@ impl Modulus {
     pub fn inverse(self, a: Elem) -> Elem
         requires positive { 0 < a }
         requires below { a < self }
+        ensures value { result ≡ inverse self a }
         ensures product { (a * result) % self ≡ 1 }
         ensures below { result < self }
     {

@@ -31,9 +31,9 @@ fn compare_blocks(kind: Kind, a: &[u16], b: &[u16]) -> Ordering
     ensures { result ≡ slice_cmp nat_cmp (block_key kind a.now) (block_key kind b.now) }
 {
     match kind {
-        Kind::Lex => a.cmp(b),
+        Kind::Lex => compare_places(a, b),
         Kind::GrLex => match compare_degrees(a, b) {
-            Ordering::Equal => a.cmp(b),
+            Ordering::Equal => compare_places(a, b),
             decided => decided,
         },
         Kind::GrevLex => match compare_degrees(a, b) {
@@ -41,6 +41,20 @@ fn compare_blocks(kind: Kind, a: &[u16], b: &[u16]) -> Ordering
             decided => decided,
         },
     }
+}
+
+// The first place where two blocks differ decides.
+fn compare_places(a: &[u16], b: &[u16]) -> Ordering
+    requires same_places { length a.now ≡ length b.now }
+    ensures { result ≡ slice_cmp nat_cmp a.now b.now }
+{
+    for (i, x) in a.iter().enumerate() {
+        match x.cmp(&b[i]) {
+            Ordering::Equal => {}
+            decided => return decided,
+        }
+    }
+    Ordering::Equal
 }
 
 // The comparison of the degrees of two blocks, in one pass.

@@ -4,7 +4,7 @@ use Rattle.std.proofs.lemmas.List.{length-take, length-drop, take-append-drop, d
 use Rattle.std.proofs.Math.Nat.{mul-le-mul_right, le_of_mul-le-mul_left, le_antisymm}
 use Rattle.std.specs.Prelude.{slice_get}
 use Rattle.cgs_poly.specs.Polynomial.{Term, term}
-use Rattle.cgs_poly.specs.Flat.{terms_of}
+use Rattle.cgs_poly.specs.Flat.{terms_of, coefficients_of, exponents_of}
 
 pub terms_length : (p : ℕ) (cs es : List ℕ) → length (terms_of p cs es) ≡ length cs
 terms_length p [] es = refl
@@ -118,3 +118,20 @@ flat_parts p q (c ∷ cs) es (d ∷ ds) ns h k e =
     let a : c ≡ d = ap (λ (x : Term). x.coefficient) t in
     let b : take p es ≡ take q ns = ap (λ (x : Term). x.exponents) t in
     (cc (a, ih.0), cc (b, ih.1, take-append-drop p es, take-append-drop q ns))
+
+-- the two lists of a list of terms
+
+pub coefficients_are : (p : ℕ) (cs es : List ℕ) (f : List Term) → terms_of p cs es ≡ f → cs ≡ coefficients_of f
+coefficients_are p cs es f v = here p cs es ∙ ap coefficients_of v
+  where
+    here : (p : ℕ) (cs es : List ℕ) → cs ≡ coefficients_of (terms_of p cs es)
+    here p [] es = refl
+    here p (c ∷ cs) es = ap (λ k. c ∷ k) (here p cs (drop p es))
+
+pub exponents_are : (p : ℕ) (cs es : List ℕ) (f : List Term) → terms_of p cs es ≡ f → length es ≡ length cs * p → es ≡ exponents_of f
+exponents_are p cs es f v h = here p cs es h ∙ ap exponents_of v
+  where
+    here : (p : ℕ) (cs es : List ℕ) → length es ≡ length cs * p → es ≡ exponents_of (terms_of p cs es)
+    here p [] [] h = refl
+    here p [] (e ∷ es) h = absurd (omega arith)
+    here p (c ∷ cs) es h = sym (take-append-drop p es) ∙ ap (λ k. take p es ++ k) (here p cs (drop p es) (first_fits p (length cs) es h).1)

@@ -11,3 +11,8 @@ pub mod ChangedLemmas
 pub mod FaultLemmas
 pub mod ParameterLemmas
 pub mod MultipleLemmas
+pub mod SpecialisedLemmas
+pub mod RecastLemmas
+pub mod MonicLemmas
+pub mod SameLemmas
+pub mod OneLemmas

@@ -1,5 +1,5 @@
 -- How the canonical list of two canonical lists, one after the other, begins: what a merge of two sorted lists does.
-use Rattle.std.proofs.Common.{ℕ, ◌≡◌, ◌+◌, ◌-◌, ◌*◌, ◌%◌, ◌<◌, ◌≤◌, Bool, true, false, cond, Some, List, [], ◌∷◌, ◌++◌, length, take, drop, append_assoc, refl, sym, ap, ◌∙◌, subst, arith, eqb}
+use Rattle.std.proofs.Common.{ℕ, ◌≡◌, ◌+◌, ◌-◌, ◌*◌, ◌%◌, ◌<◌, ◌≤◌, Bool, true, false, cond, Option, Some, None, List, [], ◌∷◌, ◌++◌, length, take, drop, append_assoc, refl, sym, ap, ◌∙◌, subst, arith, eqb}
 use Rattle.std.proofs.Math.Nat.{mod-eq_of_lt}
 use Rattle.std.proofs.lemmas.Bool.{ne_eqb}
 use Rattle.std.proofs.lemmas.List.{append-nil, drop-drop, drop_all, take-append-drop, take_rest}
@@ -12,7 +12,7 @@ use Rattle.cgs_order.specs.TermOrder.{compared}
 use Rattle.cgs_order.proofs.OrderLemmas.{cmp_self, cmp_equal, compared_back, compared_equal, compared_forth}
 use Rattle.cgs_poly.specs.declared.ring.Ring.{Ring}
 use Rattle.cgs_poly.specs.Polynomial.{Term, term, order_of, total, IsOfRing, StartsBelow, IsCanonical, kept, inserted, canonical}
-use Rattle.cgs_poly.specs.Merge.{AreAbove, StartsNotAbove, count_at, joined}
+use Rattle.cgs_poly.specs.Merge.{AreAbove, StartsNotAbove, first_at, count_met, joined}
 use Rattle.cgs_poly.proofs.SumLemmas.{total_append}
 use Rattle.cgs_poly.proofs.CanonicalLemmas.{AllBelow, all_below_append, all_below_canonical, append_of_ring, canonical_same, canonical_of_ring, canonical_starts, canonical_itself}
 use Rattle.cgs_poly.proofs.PlaceLemmas.{drop_get, canonical_drop}
@@ -93,15 +93,19 @@ module _ (ring : Ring) (pos : 0 < ring.modulus) where
 
   -- a term of the second list, before which nothing is left in the first
   pub merge_joined : (h g : List Term) (y : Term) → IsCanonical ring h → IsCanonical ring (y ∷ g) → StartsNotAbove (order_of ring) y.exponents h
-      → canonical ring (h ++ y ∷ g) ≡ joined ring y.coefficient y.exponents h ++ canonical ring (drop (count_at y.exponents h) h ++ g)
+      → canonical ring (h ++ y ∷ g) ≡ joined ring y.coefficient y.exponents (first_at y.exponents h)
+      ++ canonical ring (drop (count_met (first_at y.exponents h)) h ++ g)
   merge_joined [] g y a b n = merge_right y [] g tt b tt
   merge_joined (x ∷ h) g y a b n = step (slice_cmp nat_cmp x.exponents y.exponents) refl
     where
       other : (x.exponents ≡ y.exponents → ⊥) → canonical ring ((x ∷ h) ++ y ∷ g) ≡ y ∷ canonical ring ((x ∷ h) ++ g)
       other d = merge_right y (x ∷ h) g a b (not_above x.exponents y.exponents (compared (order_of ring) x.exponents y.exponents) refl n d (a.2 ∙ sym b.2))
 
+      met : Ordering → Option ℕ
+      met o = cond (is_eq o) (Some x.coefficient) None
+
       step : (o : Ordering) → slice_cmp nat_cmp x.exponents y.exponents ≡ o
-          → canonical ring ((x ∷ h) ++ y ∷ g) ≡ cond (is_eq o) (kept ring (x.coefficient + y.coefficient) y.exponents []) (y ∷ []) ++ canonical ring (drop (cond (is_eq o) 1 0) (x ∷ h) ++ g)
+          → canonical ring ((x ∷ h) ++ y ∷ g) ≡ joined ring y.coefficient y.exponents (met o) ++ canonical ring (drop (count_met (met o)) (x ∷ h) ++ g)
       step Less e = other (λ q. different x.exponents y.exponents q Less e (λ z. cc))
       step Greater e = other (λ q. different x.exponents y.exponents q Greater e (λ z. cc))
       step Equal e =
@@ -110,23 +114,25 @@ module _ (ring : Ring) (pos : 0 < ring.modulus) where
 
   -- one step of a merge: the terms from i to end are above y, the next term of the second list
   pub merge_next : (f g : List Term) (i end j : ℕ) (y : Term) → IsCanonical ring f → IsCanonical ring g → i ≤ end → slice_get g j ≡ Some y
-      → AreAbove (order_of ring) y.exponents (take (end - i) (drop i f)) → StartsNotAbove (order_of ring) y.exponents (drop end f) → (before during after all : List Term)
-      → during ≡ before ++ take (end - i) (drop i f) → after ≡ during ++ joined ring y.coefficient y.exponents (drop end f)
-      → before ++ canonical ring (drop i f ++ drop j g) ≡ all → after ++ canonical ring (drop (end + count_at y.exponents (drop end f)) f ++ drop (j + 1) g) ≡ all
-  merge_next f g i end j y a b le get above stops before during after all d t s =
+      → AreAbove (order_of ring) y.exponents (take (end - i) (drop i f)) → StartsNotAbove (order_of ring) y.exponents (drop end f)
+      → (met : Option ℕ) → met ≡ first_at y.exponents (drop end f)
+      → (before during after all : List Term) → during ≡ before ++ take (end - i) (drop i f) → after ≡ during ++ joined ring y.coefficient y.exponents met
+      → before ++ canonical ring (drop i f ++ drop j g) ≡ all → after ++ canonical ring (drop (end + count_met met) f ++ drop (j + 1) g) ≡ all
+  merge_next f g i end j y a b le get above stops met is before during after all d t s =
       let run : List Term = take (end - i) (drop i f) in
       let h : List Term = drop end f in
-      let more : List Term = joined ring y.coefficient y.exponents (drop end f) in
-      let rest : List Term = canonical ring (drop (count_at y.exponents (drop end f)) (drop end f) ++ drop (j + 1) g) in
+      let more : List Term = joined ring y.coefficient y.exponents met in
+      let rest : List Term = canonical ring (drop (count_met met) (drop end f) ++ drop (j + 1) g) in
       let split : take (end - i) (drop i f) ++ drop end f ≡ drop i f = parts i end f le in
       let next : drop j g ≡ y ∷ drop (j + 1) g = drop_get g j y get in
       let hf : IsCanonical ring (take (end - i) (drop i f) ++ drop end f) = subst (λ k. IsCanonical ring k) (sym split) (canonical_drop ring i f a) in
       let hg : IsCanonical ring (y ∷ drop (j + 1) g) = subst (λ k. IsCanonical ring k) next (canonical_drop ring j g b) in
       let e = merge_run (take (end - i) (drop i f)) (drop end f) (drop (j + 1) g) y hf hg above in
-      let k = merge_joined (drop end f) (drop (j + 1) g) y (canonical_drop ring end f a) hg stops in
+      let k : canonical ring (drop end f ++ y ∷ drop (j + 1) g) ≡ more ++ rest =
+      rw is (merge_joined (drop end f) (drop (j + 1) g) y (canonical_drop ring end f a) hg stops) in
       let whole : canonical ring (drop i f ++ drop j g) ≡ run ++ (more ++ rest) = cc (split, next, e, k) in
-      let behind : drop (end + count_at y.exponents (drop end f)) f ≡ drop (count_at y.exponents (drop end f)) (drop end f) = sym (drop-drop (count_at y.exponents (drop end f)) end f) in
-      let whole_rest : canonical ring (drop (end + count_at y.exponents (drop end f)) f ++ drop (j + 1) g) ≡ rest = ap (λ k. canonical ring (k ++ drop (j + 1) g)) behind in
+      let behind : drop (end + count_met met) f ≡ drop (count_met met) (drop end f) = sym (drop-drop (count_met met) end f) in
+      let whole_rest : canonical ring (drop (end + count_met met) f ++ drop (j + 1) g) ≡ rest = ap (λ k. canonical ring (k ++ drop (j + 1) g)) behind in
       let regroup : ((before ++ run) ++ more) ++ rest ≡ before ++ (run ++ (more ++ rest)) = simp append_assoc in
       cc
 

@@ -1,6 +1,7 @@
 -- The parts of a polynomial by its variables, and the leading one without them.
-use Rattle.std.proofs.Common.{ℕ, zero, suc, ◌≡◌, ◌+◌, ◌*◌, ◌%◌, ◌≤◌, Bool, true, false, cond, Some, List, [], ◌∷◌, ◌++◌, length, take, drop, replicate, refl, sym, ap, ◌∙◌, arith, add-one}
-use Rattle.std.proofs.lemmas.List.{length-append, length-take, length-drop, length-replicate, take-append-drop, take_at, drop_at, append_cancel_left, append-nil}
+use Rattle.std.proofs.Common.{ℕ, zero, suc, ◌≡◌, ◌+◌, ◌*◌, ◌%◌, ◌≤◌, Bool, true, false, ◌&&◌, IsTrue, ◌↔◌, cond, Some, List, [], ◌∷◌, ◌++◌, length, take, drop, replicate, refl, sym, ap, ◌∙◌, arith, add-one}
+use Rattle.std.proofs.lemmas.List.{length-append, length-take, length-drop, length-replicate, take-append-drop, take_at, drop_at, append_cancel_left, append-nil, at_drop_all}
+use Rattle.std.proofs.lemmas.Bool.{and_parts, and_from}
 use Rattle.std.specs.Prelude.{slice_get}
 use Rattle.std.specs.declared.cmp.Ordering.{Ordering}
 use Rattle.std.specs.declared.cmp.Ordering.TheVariants.{Less, Equal, Greater}
@@ -15,9 +16,10 @@ use Rattle.cgs_poly.specs.Polynomial.{Term, term, places, order_of, total, only,
 use Rattle.cgs_poly.specs.declared.draft.Draft.{Draft}
 use Rattle.cgs_poly.specs.Draft.{terms_in, IsFlat, Appended}
 use Rattle.cgs_poly.specs.Product.{lead}
-use Rattle.cgs_poly.specs.Parameters.{lead_x, part_at, without_variables, strip, lc_x, HasNoVariables}
+use Rattle.cgs_poly.specs.Parameters.{lead_x, part_at, without_variables, strip, lc_x, HasNoVariables, has_no_variables}
 use Rattle.cgs_poly.proofs.SumLemmas.{only_same, only_other}
 use Rattle.cgs_poly.proofs.CanonicalLemmas.{AllBelow, all_below_canonical, canonical_of_ring}
+use Rattle.cgs_poly.proofs.PlaceLemmas.{drop_get}
 use Rattle.cgs_poly.proofs.ProductOrderLemmas.{product_append, compared_shift}
 
 -- lists of terms
@@ -37,7 +39,7 @@ strip_append ring (y ∷ f) g = ap (λ k. term y.coefficient (without_variables 
 
 -- one term more
 
-front_more : (f : List Term) (i : ℕ) (y : Term) → slice_get f i ≡ Some y → take (i + 1) f ≡ take i f ++ y ∷ []
+pub front_more : (f : List Term) (i : ℕ) (y : Term) → slice_get f i ≡ Some y → take (i + 1) f ≡ take i f ++ y ∷ []
 front_more [] i y e = absurd (cc)
 front_more (z ∷ f) zero y e = let s : z ≡ y = cc in rw s refl
 front_more (z ∷ f) (suc i) y e = rw add-one (ap (λ k. z ∷ k) (rw add-one at (front_more f i y e)))
@@ -155,14 +157,20 @@ module _ (ring : Ring) where
   strip_free [] = tt
   strip_free (y ∷ f) = (take_at (replicate ring.variables 0) (drop ring.variables y.exponents) ring.variables (length-replicate {A = ℕ} ring.variables 0), strip_free f)
 
+  pub lc_x_canonical : (f : List Term) → IsCanonical ring f → IsCanonical ring (lc_x ring f)
+  lc_x_canonical f h = strip_canonical (lead_x ring f) (part_at ring (lead_x ring f) f) (part_all (lead_x ring f) f) (part_canonical (lead_x ring f) f h)
+
   pub lc_x_poly : (f : List Term) → IsPoly ring f → IsPoly ring (lc_x ring f)
   lc_x_poly f h =
-      let x : List ℕ = lead_x ring f in
       let part = part_canonical (lead_x ring f) f h.canonical in
       record {
-        canonical = strip_canonical (lead_x ring f) (part_at ring (lead_x ring f) f) (part_all (lead_x ring f) f) part;
+        canonical = lc_x_canonical f h.canonical;
         low = strip_low (part_at ring (lead_x ring f) f) (canonical_of_ring ring (part_at ring (lead_x ring f) f) part) (part_low (lead_x ring f) f h.low);
       }
+
+  -- that of a polynomial that is not 0
+  pub lc_x_some : (y : Term) (f : List Term) → lc_x ring (y ∷ f) ≡ term y.coefficient (without_variables ring y.exponents) ∷ strip ring (part_at ring (take ring.variables y.exponents) f)
+  lc_x_some y f = rw (cmp_self (take ring.variables y.exponents)) refl
 
   pub lc_x_free : (f : List Term) → HasNoVariables ring (lc_x ring f)
   lc_x_free f = strip_free (part_at ring (lead_x ring f) f)
@@ -247,3 +255,47 @@ module _ (ring : Ring) (x : List ℕ) (f : List Term) (i c : ℕ) (m : List ℕ)
         places = k.places;
         terms = k.terms ∙ (sym (append-nil (strip ring (part_at ring x (take i f)))) ∙ (ap (λ l. strip ring (part_at ring x (take i f)) ++ strip ring l) (sym none) ∙ sym more));
       }
+
+-- the test for variables
+
+pub tested_free : (ring : Ring) (f : List Term) → has_no_variables ring f ≡ true → HasNoVariables ring f
+tested_free ring [] h = tt
+tested_free ring (y ∷ f) h = let p = and_parts _ _ h in (by_cmp (slice_cmp nat_cmp (take ring.variables y.exponents) (replicate ring.variables 0)) refl p.0, tested_free ring f p.1)
+  where
+    by_cmp : (o : Ordering) → slice_cmp nat_cmp (take ring.variables y.exponents) (replicate ring.variables 0) ≡ o → is_eq o ≡ true → take ring.variables y.exponents ≡ replicate ring.variables 0
+    by_cmp Less e k = cc
+    by_cmp Equal e k = cmp_equal (take ring.variables y.exponents) (replicate ring.variables 0) e
+    by_cmp Greater e k = cc
+
+pub free_tested : (ring : Ring) (f : List Term) → HasNoVariables ring f → has_no_variables ring f ≡ true
+free_tested ring [] h = refl
+free_tested ring (y ∷ f) h = and_from _ _ (ap (λ m. is_eq (slice_cmp nat_cmp m (replicate ring.variables 0))) h.0 ∙ ap is_eq (cmp_self (replicate ring.variables 0))) (free_tested ring f h.1)
+
+pub test_exact : (ring : Ring) (f : List Term) (b : Bool) → b ≡ has_no_variables ring f → IsTrue b ↔ HasNoVariables ring f
+test_exact ring f b e = (λ t. tested_free ring f (sym e ∙ t), λ h. e ∙ free_tested ring f h)
+
+others_apart : (m n : List ℕ) → (m ≡ n → ⊥) → is_eq (slice_cmp nat_cmp m n) ≡ false
+others_apart m n other = step (slice_cmp nat_cmp m n) refl
+  where
+    step : (o : Ordering) → slice_cmp nat_cmp m n ≡ o → is_eq o ≡ false
+    step Less e = refl
+    step Equal e = absurd (other (cmp_equal m n e))
+    step Greater e = refl
+
+-- a place whose term has no variable, one whose term has one, and the end
+
+module _ (ring : Ring) (f : List Term) (i : ℕ) (so_far : has_no_variables ring (drop i f) ≡ has_no_variables ring f) where
+  here : (x : Term) → slice_get f i ≡ Some x → (is_eq (slice_cmp nat_cmp (take ring.variables x.exponents) (replicate ring.variables 0)) && has_no_variables ring (drop (i + 1) f)) ≡ has_no_variables ring f
+  here x e = sym (ap (has_no_variables ring) (drop_get f i x e)) ∙ so_far
+
+  pub free_place : (x : Term) → slice_get f i ≡ Some x → take ring.variables x.exponents ≡ replicate ring.variables 0 → has_no_variables ring (drop (i + 1) f) ≡ has_no_variables ring f
+  free_place x e z =
+      let t : is_eq (slice_cmp nat_cmp (take ring.variables x.exponents) (replicate ring.variables 0)) ≡ true =
+      ap (λ m. is_eq (slice_cmp nat_cmp m (replicate ring.variables 0))) z ∙ ap is_eq (cmp_self (replicate ring.variables 0)) in
+      sym (ap (λ b. b && has_no_variables ring (drop (i + 1) f)) t) ∙ here x e
+
+  pub other_place : (x : Term) → slice_get f i ≡ Some x → (take ring.variables x.exponents ≡ replicate ring.variables 0 → ⊥) → false ≡ has_no_variables ring f
+  other_place x e n = sym (ap (λ b. b && has_no_variables ring (drop (i + 1) f)) (others_apart (take ring.variables x.exponents) (replicate ring.variables 0) n)) ∙ here x e
+
+  pub free_end : length f ≤ i → true ≡ has_no_variables ring f
+  free_end l = sym (at_drop_all (has_no_variables ring) f i l) ∙ so_far

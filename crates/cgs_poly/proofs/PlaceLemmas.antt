@@ -1,6 +1,6 @@
 -- The term at a place of a list: what is behind it, and what holds of it.
 use Rattle.std.proofs.Common.{ℕ, zero, suc, ◌≡◌, ◌+◌, ◌-◌, ◌<◌, ◌≤◌, max, Bool, true, false, Option, Some, None, cond, List, [], ◌∷◌, length, take, drop, refl, sym, ap, subst, arith, add-one}
-use Rattle.std.specs.Prelude.{slice_get}
+use Rattle.std.specs.Prelude.{slice_get, IfSome}
 use Rattle.std.specs.declared.cmp.Ordering.{Ordering}
 use Rattle.std.specs.declared.cmp.Ordering.TheVariants.{Less, Equal, Greater}
 use Rattle.std.specs.Ordering.{nat_cmp, is_eq}
@@ -13,7 +13,7 @@ use Rattle.cgs_poly.specs.Polynomial.{Term, term, places, IsCanonical}
 use Rattle.cgs_exps.specs.Monomial.{degree}
 use Rattle.cgs_poly.specs.Product.{top_degree}
 use Rattle.cgs_poly.specs.Draft.{HaveLength}
-use Rattle.cgs_poly.specs.Merge.{AreAbove, StartsNotAbove, first_at, count_at, changed, EachTerm}
+use Rattle.cgs_poly.specs.Merge.{AreAbove, StartsNotAbove, first_at, changed, EachTerm}
 
 some_same : (x y : Term) → ◌≡◌ {A = Option Term} (Some x) (Some y) → x ≡ y
 some_same x y e = cc
@@ -95,13 +95,13 @@ first_other m i c f n e d = rw (drop_get f i (term c n) e) (step (slice_cmp nat_
     step Equal q = absurd (d (cmp_equal n m q))
     step Greater q = refl
 
-pub first_below : (ring : Ring) (m : List ℕ) (c : ℕ) (f : List Term) → IsCanonical ring f → Some c ≡ first_at m f → c < ring.modulus
-first_below ring m c [] h e = absurd (cc)
-first_below ring m c (x ∷ f) h e = step (is_eq (slice_cmp nat_cmp x.exponents m)) e
+pub met_below : (ring : Ring) (m : List ℕ) (f : List Term) → IsCanonical ring f → IfSome (first_at m f) (λ d. d < ring.modulus)
+met_below ring m [] h = tt
+met_below ring m (x ∷ f) h = step (is_eq (slice_cmp nat_cmp x.exponents m))
   where
-    step : (b : Bool) → Some c ≡ cond b (Some x.coefficient) None → c < ring.modulus
-    step true q = let s : c ≡ x.coefficient = cc in rw s h.1
-    step false q = absurd (cc)
+    step : (b : Bool) → IfSome (cond b (Some x.coefficient) None) (λ d. d < ring.modulus)
+    step true = h.1
+    step false = tt
 
 -- changed terms
 
@@ -120,14 +120,6 @@ changed_length a b (y ∷ g) = ap suc (changed_length a b g)
 pub changed_not : (g : List Term) → changed (λ c. c) (λ m. m) g ≡ g
 changed_not [] = refl
 changed_not (y ∷ g) = ap (λ h. y ∷ h) (changed_not g)
-
-pub count_few : (m : List ℕ) (f : List Term) → count_at m f ≤ length f
-count_few m [] = omega arith
-count_few m (x ∷ f) = step (is_eq (slice_cmp nat_cmp x.exponents m))
-  where
-    step : (b : Bool) → cond b 1 0 ≤ suc (length f)
-    step true = omega arith
-    step false = omega arith
 
 pub each_trivial : (f : List Term) → EachTerm (λ c m. Unit {0}) f
 each_trivial [] = tt

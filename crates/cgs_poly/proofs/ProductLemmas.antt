@@ -132,6 +132,16 @@ of_ring_take ring zero f h = tt
 of_ring_take ring (suc i) [] h = tt
 of_ring_take ring (suc i) (x ∷ f) h = (h.0, of_ring_take ring i f h.1)
 
+pub low_take : (n : ℕ) (f : List Term) → HasLowDegrees f → HasLowDegrees (take n f)
+low_take zero f h = tt
+low_take (suc n) [] h = tt
+low_take (suc n) (x ∷ f) h = (h.0, low_take n f h.1)
+
+pub low_drop : (n : ℕ) (f : List Term) → HasLowDegrees f → HasLowDegrees (drop n f)
+low_drop zero f h = h
+low_drop (suc n) [] h = tt
+low_drop (suc n) (x ∷ f) h = low_drop n f h.1
+
 of_ring_length : (ring : Ring) (f : List Term) → IsOfRing ring f → HaveLength (places ring) f
 of_ring_length ring [] h = tt
 of_ring_length ring (x ∷ f) h = (h.0, of_ring_length ring f h.1)

@@ -7,7 +7,7 @@ use Rattle.cgs_order.specs.declared.block.BlockOrder.{BlockOrder}
 use Rattle.cgs_order.specs.TermOrder.{compared}
 use Rattle.cgs_exps.specs.Monomial.{degree}
 use Rattle.cgs_poly.specs.declared.ring.Ring.{Ring}
-use Rattle.cgs_poly.specs.Polynomial.{Term, term, only, kept, greatest_degree}
+use Rattle.cgs_poly.specs.Polynomial.{Term, term, kept, greatest_degree}
 
 -- each monomial is above m
 abbrev pub AreAbove : BlockOrder → List ℕ → List Term → Type 0
@@ -24,15 +24,15 @@ abbrev pub first_at : List ℕ → List Term → Option ℕ
 first_at m [] = None
 first_at m (x ∷ f) = cond (is_eq (slice_cmp nat_cmp x.exponents m)) (Some x.coefficient) None
 
--- how many terms at the front are at m: 1 or 0
-abbrev pub count_at : List ℕ → List Term → ℕ
-count_at m [] = 0
-count_at m (x ∷ f) = only x.exponents m
+-- how many terms have such a coefficient: 1 or 0
+abbrev pub count_met : Option ℕ → ℕ
+count_met None = 0
+count_met (Some d) = 1
 
--- c*m together with the first term of f, if that is at m
-abbrev pub joined : Ring → ℕ → List ℕ → List Term → List Term
-joined ring c m [] = term c m ∷ []
-joined ring c m (x ∷ f) = cond (is_eq (slice_cmp nat_cmp x.exponents m)) (kept ring (x.coefficient + c) m []) (term c m ∷ [])
+-- c*m together with a term at m of that coefficient, if there is one
+abbrev pub joined : Ring → ℕ → List ℕ → Option ℕ → List Term
+joined ring c m None = term c m ∷ []
+joined ring c m (Some d) = kept ring (d + c) m []
 
 -- each term with its coefficient and its monomial changed
 abbrev pub changed : (ℕ → ℕ) → (List ℕ → List ℕ) → List Term → List Term

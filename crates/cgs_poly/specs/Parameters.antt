@@ -1,9 +1,9 @@
 -- The variables' and the parameters' parts of a polynomial, and its values at points, a number for each parameter.
-use Rattle.std.specs.Prelude.{ℕ, ◌≡◌, ◌*◌, ◌^◌, ◌%◌, cond, List, [], ◌∷◌, ◌++◌, take, drop, replicate}
+use Rattle.std.specs.Prelude.{ℕ, ◌≡◌, ◌*◌, ◌^◌, ◌%◌, Bool, true, ◌&&◌, cond, List, [], ◌∷◌, ◌++◌, take, drop, replicate}
 use Rattle.std.specs.Ordering.{nat_cmp, is_eq}
 use Rattle.std.specs.Cmp.Lexicographic.{slice_cmp}
 use Rattle.cgs_poly.specs.declared.ring.Ring.{Ring}
-use Rattle.cgs_poly.specs.Polynomial.{Term, term, total, canonical}
+use Rattle.cgs_poly.specs.Polynomial.{Term, term, total, canonical, IsPoly}
 use Rattle.cgs_poly.specs.Product.{lead}
 
 -- the variables' exponents of the leading monomial
@@ -32,6 +32,16 @@ lc_x ring f = strip ring (part_at ring (lead_x ring f) f)
 abbrev pub HasNoVariables : Ring → List Term → Type 0
 HasNoVariables ring [] = Unit {0}
 HasNoVariables ring (y ∷ f) = (take ring.variables y.exponents ≡ replicate ring.variables 0) × HasNoVariables ring f
+
+-- the test of it
+abbrev pub has_no_variables : Ring → List Term → Bool
+has_no_variables ring [] = true
+has_no_variables ring (y ∷ f) = is_eq (slice_cmp nat_cmp (take ring.variables y.exponents) (replicate ring.variables 0)) && has_no_variables ring f
+
+-- a polynomial of the ring in the parameters alone
+pub record IsCondition (ring : Ring) (f : List Term) : Type 0 where
+  pub poly : IsPoly ring f
+  pub free : HasNoVariables ring f
 
 -- the product of the powers of a point's numbers
 abbrev pub power_at : List ℕ → List ℕ → ℕ

@@ -1,7 +1,7 @@
 -- Polynomials as lists of terms (Cox, Little, O'Shea, chapter 1, section 1; the canonical list of chapter 2, section 2).
 -- Any list of terms stands for their sum. The polynomial itself is the one list for it that is canonical: coefficients 1 to p-1, and
 -- monomials that strictly fall.
-use Rattle.std.specs.Prelude.{ℕ, ◌≡◌, ◌+◌, ◌*◌, ◌%◌, ◌<◌, ◌≤◌, cond, ◌==◌, List, [], ◌∷◌, length}
+use Rattle.std.specs.Prelude.{ℕ, ◌≡◌, ◌+◌, ◌*◌, ◌%◌, ◌<◌, ◌≤◌, cond, ◌==◌, List, [], ◌∷◌, length, replicate}
 use Rattle.std.specs.declared.cmp.Ordering.TheVariants.{Less, Equal, Greater}
 use Rattle.std.specs.Ordering.{is_eq, nat_cmp}
 use Rattle.std.specs.Cmp.Lexicographic.{slice_cmp}
@@ -30,6 +30,10 @@ pub record IsRing (ring : Ring) : Type 0 where
 -- the length of a monomial's list of exponents
 abbrev pub places : Ring → ℕ
 places ring = ring.variables + ring.parameters
+
+-- the polynomial 1
+abbrev pub one : Ring → List Term
+one ring = term 1 (replicate (places ring) 0) ∷ []
 
 abbrev pub order_of : Ring → BlockOrder
 order_of ring = record { kind = ring.kind; head = ring.variables; tail = ring.parameters }

@@ -1,8 +1,9 @@
 //! The arithmetic of polynomials.
 
-ghost use Rattle.std.specs.Prelude.{ℕ, List, [], ◌∷◌, ◌≡◌, ◌+◌, ◌-◌, ◌*◌, ◌++◌, ◌%◌, ◌<◌, ◌≤◌, ◌↔◌, length, take, drop, IsTrue, IfOk, IsErrOf};
+ghost use Rattle.std.specs.Prelude.{ℕ, List, [], ◌≡◌, ◌+◌, ◌-◌, ◌*◌, ◌++◌, ◌%◌, ◌<◌, ◌≤◌, ◌↔◌, length, take, drop, IsTrue, IfOk, OnOk, IsErrOf};
 ghost use Rattle.cgs_poly.specs.Polynomial.{IsRing, IsPoly, HasLowDegrees, places, canonical, coefficient, greatest_degree};
 ghost use Rattle.cgs_poly.specs.Product.{scaled, multiple, all_products, lead_coefficient, top_degree};
+ghost use Rattle.cgs_poly.specs.Monic.{monic_of};
 ghost use Rattle.cgs_poly.specs.Merge.{EachTerm};
 
 use crate::fault::PolyFault;
@@ -48,6 +49,7 @@ impl Poly {
     pub fn monic(alloc: Global, ring: &Ring, f: &Poly) -> Result<Poly, AllocError>
         requires ring { IsRing ring.now }
         requires poly { IsPoly ring.now f.now }
+        ensures monic { IfOk result (λ h. h ≡ monic_of ring.now f.now) }
         ensures zero { IfOk result (λ h. f.now ≡ [] → h ≡ []) }
         ensures lead { IfOk result (λ h. ¬ (f.now ≡ []) → lead_coefficient h ≡ 1) }
         ensures multiple { IfOk result (λ h. f.now ≡ canonical ring.now (scaled (lead_coefficient f.now) h)) }
@@ -79,6 +81,7 @@ impl Poly {
         ensures difference { IfOk result (λ h. h ≡ canonical ring.now (f.now ++ multiple (ring.now.modulus - c) m.now g.now)) }
         ensures poly { IfOk result (λ h. IsPoly ring.now h) }
         ensures degree { IsErrOf result PolyFault.Degree ↔ (¬ HasLowDegrees (multiple c m.now g.now)) }
+        ensures low { OnOk result (HasLowDegrees (multiple c m.now g.now)) }
         ensures coefficients { IfOk result (λ h. (n : List ℕ) → (coefficient ring.now.modulus h n + coefficient ring.now.modulus (multiple c m.now g.now) n) % ring.now.modulus ≡ coefficient ring.now.modulus f.now n) }
     {
         if g.exceeds(degree(m)) {
@@ -101,6 +104,7 @@ impl Poly {
         ensures product { IfOk result (λ h. h ≡ canonical ring.now (all_products f.now g.now)) }
         ensures poly { IfOk result (λ h. IsPoly ring.now h) }
         ensures degree { IsErrOf result PolyFault.Degree ↔ (¬ HasLowDegrees (all_products f.now g.now)) }
+        ensures low { OnOk result (HasLowDegrees (all_products f.now g.now)) }
         ensures coefficients { IfOk result (λ h. (n : List ℕ) → coefficient ring.now.modulus h n ≡ coefficient ring.now.modulus (all_products f.now g.now) n) }
     {
         if f.len() == 0 {

@@ -1,8 +1,8 @@
 //! Terms as they are put together, one after the other, with room for all of them from the start.
 
-ghost use Rattle.std.specs.Prelude.{◌≡◌, ◌≤◌, ◌<◌, ◌+◌, [], ◌∷◌, ◌++◌, length, take, drop, ◌-◌, OnOk, IfOk};
-ghost use Rattle.cgs_poly.specs.Polynomial.{term, IsCanonical};
-ghost use Rattle.cgs_poly.specs.Merge.{count_at, joined};
+ghost use Rattle.std.specs.Prelude.{◌≡◌, ◌≤◌, ◌<◌, ◌+◌, [], ◌∷◌, ◌++◌, length, take, drop, ◌-◌, OnOk, IfOk, IfSome};
+ghost use Rattle.cgs_poly.specs.Polynomial.{term};
+ghost use Rattle.cgs_poly.specs.Merge.{joined};
 ghost use Rattle.cgs_poly.specs.Draft.{terms_in, IsFlat, Appended, HaveLength};
 
 use crate::flat::part;
@@ -61,7 +61,10 @@ impl Draft {
         ensures { OnOk result (Appended self.old self.new (term c m.now ∷ [])) }
     {
         self.coefficients.push(c)?;
-        self.exponents.extend_from_slice(m)?;
+        // Exponents are few: pushing each takes less time than a call that copies them all.
+        for &x in m {
+            self.exponents.push(x)?;
+        }
         Ok(())
     }
 
@@ -90,6 +93,14 @@ impl Draft {
         requires within { to ≤ length f.now }
         ensures { OnOk result (Appended self.old self.new (take (to - from) (drop from f.now))) }
     {
+        if from == to {
+            return Ok(());
+        }
+        // Most runs are of one term, which is pushed in less time than slices are copied.
+        if to - from == 1 {
+            let term = f.term(from);
+            return self.push(term.coefficient, term.exponents);
+        }
         self.coefficients
             .extend_from_slice(&f.coefficients[from..to])?;
         self.exponents
@@ -97,34 +108,28 @@ impl Draft {
         Ok(())
     }
 
-    // Puts a term at the end, together with the term of `f` at a place if that has the same monomial. The answer is the
-    // place in `f` after that.
+    // Puts a term at the end, together with a term of the same monomial if there is one with this coefficient.
     pub(crate) fn push_joined(
         &mut self,
         ring: &Ring,
-        f: &Poly,
-        at: usize,
+        met: Option<Elem>,
         c: Elem,
         m: &[u16],
-    ) -> Result<usize, AllocError>
+    ) -> Result<(), AllocError>
         requires flat { IsFlat self.old }
         requires places { length m.now ≡ self.old.places }
-        requires within { at ≤ length f.now }
-        requires canonical { IsCanonical ring.now f.now }
+        requires met { IfSome met (λ d. d < ring.now.modulus) }
         requires below { c < ring.now.modulus }
-        ensures place { IfOk result (λ k. k ≡ at + count_at m.now (drop at f.now)) }
-        ensures joined { OnOk result (Appended self.old self.new (joined ring.now c m.now (drop at f.now))) }
+        ensures { OnOk result (Appended self.old self.new (joined ring.now c m.now met)) }
     {
-        let Some(other) = f.coefficient_at(at, m) else {
-            self.push(c, m)?;
-            return Ok(at);
+        let Some(other) = met else {
+            return self.push(c, m);
         };
         let sum = ring.modulus.add(other, c);
         if sum.number() == 0 {
-            return Ok(at + 1);
+            return Ok(());
         }
-        self.push(sum, m)?;
-        Ok(at + 1)
+        self.push(sum, m)
     }
 
     // The polynomial of these terms.

@@ -9,15 +9,22 @@ mod arithmetic;
 mod draft;
 mod fault;
 mod flat;
+mod front;
 mod laws;
+mod list;
 mod merge;
 mod multiple;
 mod parameters;
 mod poly;
+mod recast;
 mod ring;
 
 pub use fault::PolyFault;
-pub use laws::{coefficients_decide, one_is_least, product_keeps_order};
+pub use laws::{
+    coefficients_decide, one_is_least, product_keeps_order, specialising_is_homomorphism,
+    value_is_homomorphism,
+};
+pub use list::{are_same, copied, is_among, joined};
 pub use poly::{Poly, PolyList, Term};
 pub use ring::Ring;
 

@@ -1,15 +1,16 @@
 //! The sum of two polynomials, of which the second is multiplied on the way: one pass over both lists of terms.
 
-ghost use Rattle.std.specs.Prelude.{◌≡◌, ◌≤◌, ◌+◌, ◌-◌, ◌++◌, length, take, drop, IfOk};
+ghost use Rattle.std.specs.Prelude.{◌≡◌, ◌<◌, ◌≤◌, ◌+◌, ◌^◌, ◌-◌, ◌++◌, length, take, drop, IfOk};
 ghost use Rattle.cgs_poly.specs.Polynomial.{IsRing, IsOfRing, IsCanonical, canonical};
 ghost use Rattle.cgs_poly.specs.Draft.{HaveLength};
-ghost use Rattle.cgs_poly.specs.Merge.{AreAbove, StartsNotAbove, changed, EachTerm};
+ghost use Rattle.cgs_poly.specs.Merge.{AreAbove, StartsNotAbove, first_at, count_met, changed, EachTerm};
 
 use crate::draft::Draft;
 use crate::multiple::Multiple;
 use crate::poly::Poly;
 use crate::ring::Ring;
 use cgs_exps::MAX_PLACES;
+use cgs_field::Elem;
 use cgs_order::{BlockOrder, compare};
 use std::alloc::{AllocError, Global};
 use std::cmp::Ordering;
@@ -38,9 +39,10 @@ pub(crate) fn merge<M: Multiple>(
         by.prepare(ring.modulus, term.coefficient, term.exponents, &mut room);
         let c = by.times_coefficient(ring.modulus, term.coefficient, term.exponents);
         let m = by.times_monomial(term.exponents, &room);
-        let end = end_above(&order, f, i, m);
+        let (end, met) = end_above(&order, f, i, m);
         sum.extend(f, i, end)?;
-        i = sum.push_joined(ring, f, end, c, m)?;
+        sum.push_joined(ring, met, c, m)?;
+        i = end + usize::from(met.is_some());
     }
     sum.extend(f, i, f.len())?;
     Ok(sum.finish())
@@ -64,21 +66,25 @@ pub(crate) fn multiplied<M: Multiple>(
     Ok(multiple)
 }
 
-// The first place from `from` on whose monomial is not above m.
-fn end_above(order: &BlockOrder, f: &Poly, from: usize, m: &[u16]) -> usize
+// Where the terms from `from` on that are above m end, and the coefficient of the term there if it has the monomial m.
+fn end_above(order: &BlockOrder, f: &Poly, from: usize, m: &[u16]) -> (usize, Option<Elem>)
     requires within { from ≤ length f.now }
     requires lengths { HaveLength (order.now.head + order.now.tail) f.now }
     requires places { length m.now ≡ order.now.head + order.now.tail }
-    ensures from { from ≤ result }
-    ensures within { result ≤ length f.now }
-    ensures above { AreAbove order.now m.now (take (result - from) (drop from f.now)) }
-    ensures stops { StartsNotAbove order.now m.now (drop result f.now) }
+    ensures from { from ≤ result.0 }
+    ensures within { result.0 + count_met result.1 ≤ length f.now }
+    ensures few { length f.now < 2 ^ 64 }
+    ensures above { AreAbove order.now m.now (take (result.0 - from) (drop from f.now)) }
+    ensures stops { StartsNotAbove order.now m.now (drop result.0 f.now) }
+    ensures met { result.1 ≡ first_at m.now (drop result.0 f.now) }
 {
     for i in from..f.len() {
-        match compare(order, f.term(i).exponents, m) {
+        let term = f.term(i);
+        match compare(order, term.exponents, m) {
             Ordering::Greater => {}
-            _ => return i,
+            Ordering::Equal => return (i, Some(term.coefficient)),
+            Ordering::Less => return (i, None),
         }
     }
-    f.len()
+    (f.len(), None)
 }

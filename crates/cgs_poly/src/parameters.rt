@@ -1,8 +1,8 @@
 //! A polynomial as one in the variables whose coefficients are polynomials in the parameters: the leading part.
 
-ghost use Rattle.std.specs.Prelude.{ℕ, List, [], ◌≡◌, ◌↔◌, ◌++◌, length, replicate, IsNone, IfSome, IfOk};
+ghost use Rattle.std.specs.Prelude.{ℕ, List, [], ◌≡◌, ◌↔◌, ◌++◌, length, replicate, IsTrue, IsNone, IfSome, IfOk};
 ghost use Rattle.cgs_poly.specs.Polynomial.{IsRing, IsPoly, coefficient};
-ghost use Rattle.cgs_poly.specs.Parameters.{lead_x, lc_x, HasNoVariables};
+ghost use Rattle.cgs_poly.specs.Parameters.{lead_x, lc_x, HasNoVariables, has_no_variables};
 
 use crate::draft::Draft;
 use crate::poly::Poly;
@@ -11,6 +11,21 @@ use cgs_exps::MAX_PLACES;
 use std::alloc::{AllocError, Global};
 
 impl Poly {
+    /// Whether no variable stands in any term.
+    pub fn has_no_variables(&self, ring: &Ring) -> bool
+        requires { IsPoly ring.now self.now }
+        ensures test { result ≡ has_no_variables ring.now self.now }
+        ensures exact { IsTrue result ↔ HasNoVariables ring.now self.now }
+    {
+        let variables = ring.variables as usize;
+        for i in 0..self.len() {
+            if !are_zero(&self.term(i).exponents[..variables]) {
+                return false;
+            }
+        }
+        true
+    }
+
     /// The variables' exponents of the leading monomial.
     pub fn lead_x(&self, ring: &Ring) -> Option<&[u16]>
         requires ring { IsRing ring.now }
@@ -47,4 +62,10 @@ impl Poly {
         }
         Ok(part.finish())
     }
+}
+
+fn are_zero(exponents: &[u16]) -> bool
+    ensures { IsTrue result ↔ (exponents.now ≡ replicate (length exponents.now) 0) }
+{
+    exponents.iter().all(|e| *e == 0)
 }

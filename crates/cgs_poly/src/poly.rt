@@ -1,16 +1,16 @@
 //! A polynomial, kept in two flat vectors.
 
-ghost use Rattle.std.specs.Prelude.{◌≡◌, ◌<◌, ◌≤◌, ◌^◌, ◌↔◌, [], ◌∷◌, ◌++◌, length, drop, slice_get, IsTrue, IsNone, IfSome, IfOk, OnOk, OnErr, IsErrOf};
+ghost use Rattle.std.specs.Prelude.{◌≡◌, ◌<◌, ◌≤◌, ◌^◌, ◌↔◌, [], ◌∷◌, ◌++◌, length, slice_get, IsTrue, IsNone, IfSome, IfOk, OnOk, OnErr, IsErrOf};
 ghost use Rattle.cgs_exps.specs.Monomial.{degree};
-ghost use Rattle.cgs_poly.specs.Polynomial.{IsRing, IsPoly, places, term, canonical, greatest_degree};
+ghost use Rattle.cgs_poly.specs.Polynomial.{IsRing, IsPoly, places, term, one, canonical, greatest_degree};
 ghost use Rattle.cgs_poly.specs.Draft.{HaveLength};
-ghost use Rattle.cgs_poly.specs.Merge.{first_at};
+ghost use Rattle.cgs_poly.specs.Flat.{coefficients_of, exponents_of};
 
 use crate::draft::Draft;
 use crate::fault::PolyFault;
 use crate::flat::part;
 use crate::ring::Ring;
-use cgs_exps::{MAX_DEGREE, degree as monomial_degree};
+use cgs_exps::{MAX_DEGREE, MAX_PLACES, degree as monomial_degree};
 use cgs_field::Elem;
 use cgs_list::ItemList;
 use std::alloc::{AllocError, Global};
@@ -56,6 +56,19 @@ impl Poly {
             exponents: Vec::new(alloc),
             places: 0,
         }
+    }
+
+    /// The polynomial 1.
+    pub fn one(alloc: Global, ring: &Ring) -> Result<Poly, AllocError>
+        requires { IsRing ring.now }
+        ensures one { IfOk result (λ f. f ≡ one ring.now) }
+        ensures poly { IfOk result (λ f. IsPoly ring.now f) }
+    {
+        let zeros = [0; MAX_PLACES];
+        let places = ring.places();
+        let mut draft = Draft::with_room(alloc, places, 1, places)?;
+        draft.push(ring.modulus.of_u64(1), &zeros[..places])?;
+        Ok(draft.finish())
     }
 
     /// The polynomial c times m; 0 where c is 0. It errs where the degree of m is above 32767, before memory is taken.
@@ -107,6 +120,20 @@ impl Poly {
         Some(self.term(0))
     }
 
+    /// The coefficients of all terms.
+    pub fn coefficients(&self) -> &[Elem]
+        ensures { result.now ≡ coefficients_of self.now }
+    {
+        self.coefficients.as_slice()
+    }
+
+    /// The exponents of all terms, one monomial after the other.
+    pub fn exponents(&self) -> &[u16]
+        ensures { result.now ≡ exponents_of self.now }
+    {
+        self.exponents.as_slice()
+    }
+
     /// Puts a term at the end. An error leaves the polynomial as it was. The caller keeps the order of the terms.
     pub fn push(&mut self, c: Elem, m: &[u16]) -> Result<(), AllocError>
         requires places { HaveLength (length m.now) self.old }
@@ -133,27 +160,10 @@ impl Poly {
         })
     }
 
-    /// Whether two polynomials are equal.
+    /// Whether two polynomials are equal. Exponents are compared first: different members of a list mostly differ in the lead.
     pub fn same(&self, other: &Poly) -> bool
         ensures { IsTrue result ↔ (self.now ≡ other.now) }
     {
-        self.coefficients == other.coefficients && self.exponents == other.exponents
-    }
-
-    // The coefficient of the term at a place, if there is one and it has this monomial.
-    pub(crate) fn coefficient_at(&self, at: usize, m: &[u16]) -> Option<Elem>
-        requires { at ≤ length self.now }
-        ensures coefficient { result ≡ first_at m.now (drop at self.now) }
-        ensures few { length self.now < 2 ^ 64 }
-    {
-        if at == self.len() {
-            return None;
-        }
-        let term = self.term(at);
-        if term.exponents == m {
-            Some(term.coefficient)
-        } else {
-            None
-        }
+        self.exponents == other.exponents && self.coefficients == other.coefficients
     }
 }

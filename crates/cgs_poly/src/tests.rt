@@ -132,6 +132,16 @@ fn multiples(rt: HostRuntime) -> Result<(), Fail> {
 }
 
 #[test]
+fn flat_slices(rt: HostRuntime) -> Result<(), Fail> {
+    let ring = ring(2).ok_or("no ring")?;
+    let f = poly(rt.alloc(), &ring, &[(5, [0, 1]), (3, [2, 0])])?;
+    let numbers = [ring.modulus.of_u64(3), ring.modulus.of_u64(5)];
+    assert!(rt; f.coefficients() == numbers.as_slice());
+    assert!(rt; f.exponents() == [2, 0, 0, 1].as_slice());
+    Ok(())
+}
+
+#[test]
 fn leading_parts(rt: HostRuntime) -> Result<(), Fail> {
     // in x with the parameter a
     let ring = ring(1).ok_or("no ring")?;
@@ -140,5 +150,39 @@ fn leading_parts(rt: HostRuntime) -> Result<(), Fail> {
     assert!(rt; f.len() > 0);
     let part = Poly::lc_x(rt.alloc(), &ring, &f)?;
     assert!(rt; has_terms(&part, &[(1, [0, 1]), (2, [0, 0])]));
+    Ok(())
+}
+
+#[test]
+fn recast(rt: HostRuntime) -> Result<(), Fail> {
+    // in x with the parameter a, and in y above x
+    let modulus = Modulus::of(7).ok_or("no modulus")?;
+    let narrow = Ring {
+        modulus,
+        variables: 1,
+        parameters: 1,
+        kind: Kind::Lex,
+    };
+    let wide = Ring {
+        modulus,
+        variables: 2,
+        parameters: 1,
+        kind: Kind::Lex,
+    };
+    let f = poly(
+        rt.alloc(),
+        &narrow,
+        &[(6, [0, 0]), (1, [1, 1]), (2, [1, 0])],
+    )?;
+    let more = Poly::recast(rt.alloc(), &narrow, &wide, &f)?;
+    assert_eq!(rt; (more.len(), f.len()), (3, 3));
+    for i in 0..3 {
+        if i < f.len() && i < more.len() {
+            let (own, other) = (f.term(i), more.term(i));
+            assert_eq!(rt; own.coefficient.number(), other.coefficient.number());
+            assert_eq!(rt; other.exponents.first(), Some(&0));
+            assert!(rt; other.exponents.get(1..) == Some(own.exponents));
+        }
+    }
     Ok(())
 }

@@ -49,6 +49,9 @@ returns-in_err-product-clause-degree c =
 pub returns-clause-degree : goal.returns-clause-degree
 returns-clause-degree c = ((λ e l. cc), (λ n. absurd (n (low (goal.at.returns-clause-degree c).Else-exceeds))))
 
+pub returns-clause-low : goal.returns-clause-low
+returns-clause-low c = low (goal.at.returns-clause-low c).Else-exceeds
+
 pub returns-clause-coefficients : goal.returns-clause-coefficients
 returns-clause-coefficients c = λ n.
     let t : take (c.len-2.result - 0) (drop 0 c.args.f.now) ≡ c.args.f.now = take_all (c.len-2.result - 0) c.args.f.now (omega (arith, c.len-2.ensures)) in

@@ -79,6 +79,9 @@ returns-clause-poly c =
 pub returns-clause-degree : goal.returns-clause-degree
 returns-clause-degree c = ((λ e l. cc), (λ n. absurd (n (low c c.args.c))))
 
+pub returns-clause-low : goal.returns-clause-low
+returns-clause-low c = low c c.args.c
+
 pub returns-clause-coefficients : goal.returns-clause-coefficients
 returns-clause-coefficients c = λ n.
     ap (λ h. (coefficient c.args.ring.now.modulus h n + coefficient c.args.ring.now.modulus (multiple c.args.c c.args.m.now c.args.g.now) n) % c.args.ring.now.modulus) (difference_is c)

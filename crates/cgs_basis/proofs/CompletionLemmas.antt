@@ -1,0 +1,200 @@
+-- A completion that ends has found a Gröbner basis of the generators' ideal.
+use Rattle.std.proofs.Common.{ℕ, zero, suc, ◌≡◌, ◌-◌, ◌<◌, inl, inr, Bool, true, false, cond, ltb, List, [], ◌∷◌, ◌++◌, length, get_or, refl, subst, arith}
+use Rattle.cgs_exps.specs.Monomial.{quotient}
+use Rattle.cgs_exps.proofs.MonomialLemmas.{quotient_length, lcm_length}
+use Rattle.cgs_poly.specs.declared.ring.Ring.{Ring}
+use Rattle.cgs_poly.specs.Polynomial.{Term, places, order_of, IsRing, IsOfRing, IsCanonical, canonical}
+use Rattle.cgs_poly.specs.Product.{multiple, lead, lead_coefficient}
+use Rattle.cgs_poly.proofs.RingLemmas.{ring_positive}
+use Rattle.cgs_poly.proofs.CanonicalLemmas.{canonical_of_ring}
+use Rattle.cgs_algebra.specs.Combination.{IsMember}
+use Rattle.cgs_algebra.specs.Groebner.{AreMonic, IsGroebnerBasis}
+use Rattle.cgs_algebra.specs.SPolynomial.{HasLcmRepresentation, pair_lcm}
+use Rattle.cgs_algebra.proofs.RepresentationLemmas.{lead_at_length}
+use Rattle.cgs_algebra.proofs.MemberLemmas.{zero_member, same_member, sum_member, multiple_member, scaled_member, generator_member}
+use Rattle.cgs_algebra.proofs.GroebnerLemmas.{complete_groebner, monic_member}
+use Rattle.cgs_divide.specs.DivisionRun.{divided, is_too_high}
+use Rattle.cgs_divide.specs.Division.{HasDivided}
+use Rattle.cgs_field.specs.Inverse.{inverse}
+use Rattle.cgs_poly.specs.Monic.{monic_of}
+use Rattle.cgs_poly.specs.Same.{is_among}
+use Rattle.cgs_divide.specs.AutoreductionRun.{ListRun, done, out_of_budget, out_of_degree}
+use Rattle.cgs_divide.proofs.DivisionLemmas.{divided_divides}
+use Rattle.cgs_divide.proofs.AutoreductionLemmas.{remainder_member}
+use Rattle.cgs_divide.proofs.MonicLemmas.{monic_canonical, monic_one, monic_scaled, monic_back}
+use Rattle.cgs_divide.proofs.AutoreductionRunLemmas.{went_on}
+use Rattle.cgs_pairs.specs.declared.pair.Pair.{Pair}
+use Rattle.cgs_pairs.specs.PairOrder.{IsWaiting}
+use Rattle.cgs_basis.specs.BasisRun.{Completion, with_pairs, appended, with_generator, with_generators, with_remainder, pair_terms, completed_in, start, completion}
+use Rattle.cgs_poly.proofs.SameLemmas.{among_place}
+use Rattle.cgs_algebra.proofs.GrowthLemmas.{member_more, last_member}
+use Rattle.cgs_basis.proofs.RepresentedLemmas.{pair_polynomial, pair_canonical, pair_alike, represented_by_division, represented_with_remainder}
+use Rattle.cgs_basis.proofs.StateLemmas.{IsSound, IsSettledAt, AreSettled, pairs_kept, taken_settled, appended_sound, appended_settled, new_waits}
+
+-- tests that a run has passed
+
+pub past_budget : (b : Bool) (units : ℕ) (run : ListRun) (R : List (List Term)) (left : ℕ) → cond b (out_of_budget units) run ≡ done R left → run ≡ done R left
+past_budget true units run R left e = absurd (cc)
+past_budget false units run R left e = e
+
+pub past_degree : (b : Bool) (units : ℕ) (run : ListRun) (R : List (List Term)) (left : ℕ) → cond b (out_of_degree units) run ≡ done R left → run ≡ done R left
+past_degree true units run R left e = absurd (cc)
+past_degree false units run R left e = e
+
+module _ (ring : Ring) (r : IsRing ring) (F : List (List Term)) (can : (i : ℕ) → i < length F → IsCanonical ring (get_or F i [])) where
+  pos : 0 < ring.modulus
+  pos = ring_positive ring r
+
+  -- a state in which each pair of places waits or has an lcm representation
+  record IsGood (s : Completion) : Type 0 where
+    sound : IsSound ring F s.members s.pairs
+    settled : AreSettled ring s.members s.pairs
+
+  -- the monic multiple of a member is a member
+  monic_inside : (x : Term) (f : List Term) → IsCanonical ring (x ∷ f) → IsMember ring F (x ∷ f) → IsMember ring F (monic_of ring (x ∷ f))
+  monic_inside x f h m = scaled_member ring F pos (inverse ring.modulus x.coefficient) (x ∷ f) (monic_of ring (x ∷ f)) (monic_scaled ring r x f h) m
+
+  appended_good : (s : Completion) (g : List Term) → IsGood s → IsCanonical ring g → lead_coefficient g ≡ 1 → IsMember ring F g → IsGood (appended ring s g)
+  appended_good s g h k one m = record {
+    sound = appended_sound ring F s.members g s.pairs h.sound k one m;
+    settled = appended_settled ring F s.members g s.pairs (with_pairs (order_of ring) g (length s.members) 0 s.members s.pairs) h.settled
+        (λ q w. pairs_kept (order_of ring) g (length s.members) 0 s.members s.pairs q w) (λ i l. new_waits (order_of ring) s.members g s.pairs i l);
+  }
+
+  -- the generators
+
+  -- the members generate the ideal of what was put among them, and of what was there
+  record Holds (s t : Completion) (f : List Term) : Type 0 where
+    good : IsGood t
+    here : IsMember ring t.members f
+    before : (g : List Term) → IsMember ring s.members g → IsMember ring t.members g
+
+  generator_held : (s : Completion) (f : List Term) → IsGood s → IsCanonical ring f → IsMember ring F f → Holds s (with_generator ring s f) f
+  generator_held s [] h k m = record { good = h; here = zero_member ring s.members pos; before = λ g i. i }
+  generator_held s (x ∷ f) h k m = by_test (is_among (monic_of ring (x ∷ f)) s.members) refl
+    where
+      g : List Term
+      g = monic_of ring (x ∷ f)
+
+      back : (G : List (List Term)) → IsMember ring G (monic_of ring (x ∷ f)) → IsMember ring G (x ∷ f)
+      back G i = scaled_member ring G pos x.coefficient (monic_of ring (x ∷ f)) (x ∷ f) (monic_back ring r x f k) i
+
+      g_ring : IsOfRing ring (monic_of ring (x ∷ f))
+      g_ring = canonical_of_ring ring (monic_of ring (x ∷ f)) (monic_canonical ring r x f k)
+
+      new : IsGood (appended ring s (monic_of ring (x ∷ f)))
+      new = appended_good s (monic_of ring (x ∷ f)) h (monic_canonical ring r x f k) (monic_one ring r x f k) (monic_inside x f k m)
+
+      by_test : (b : Bool) → is_among (monic_of ring (x ∷ f)) s.members ≡ b → Holds s (cond b s (appended ring s (monic_of ring (x ∷ f)))) (x ∷ f)
+      by_test true e =
+          let i = among_place (monic_of ring (x ∷ f)) s.members e in
+          record { good = h; here = back s.members (subst (λ q. IsMember ring s.members q) i.2 (monic_member ring s.members pos h.sound.monic i.0 i.1)); before = λ g i. i }
+      by_test false e = record {
+        good = new;
+        here = back (s.members ++ monic_of ring (x ∷ f) ∷ []) (last_member ring s.members (monic_of ring (x ∷ f)) pos g_ring);
+        before = λ g i. member_more ring s.members (monic_of ring (x ∷ f) ∷ []) g i;
+      }
+
+  -- the members generate the ideal of some generators
+  record HoldAll (s t : Completion) (H : List (List Term)) : Type 0 where
+    good : IsGood t
+    here : (i : ℕ) → i < length H → IsMember ring t.members (get_or H i [])
+    before : (g : List Term) → IsMember ring s.members g → IsMember ring t.members g
+
+  generators_held : (H : List (List Term)) (s : Completion) → IsGood s → ((i : ℕ) → i < length H → IsCanonical ring (get_or H i [])) → ((i : ℕ) → i < length H → IsMember ring F (get_or H i []))
+      → HoldAll s (with_generators ring s H) H
+  generators_held [] s h k m = record { good = h; here = λ i l. absurd (omega arith); before = λ g i. i }
+  generators_held (f ∷ H) s h k m =
+      let a = generator_held s f h (k 0 (omega arith)) (m 0 (omega arith)) in
+      let b = generators_held H (with_generator ring s f) a.good (λ i l. k (suc i) (omega arith)) (λ i l. m (suc i) (omega arith)) in
+      record { good = b.good; here = λ i l. by_place i l (b.before f a.here) b.here; before = λ g i. b.before g (a.before g i) }
+    where
+      by_place : (i : ℕ) → i < suc (length H) → IsMember ring (with_generators ring (with_generator ring s f) H).members f
+          → ((j : ℕ) → j < length H → IsMember ring (with_generators ring (with_generator ring s f) H).members (get_or H j [])) → IsMember ring (with_generators ring (with_generator ring s f) H).members (get_or (f ∷ H) i [])
+      by_place zero l first rest = first
+      by_place (suc i) l first rest = rest i (omega arith)
+
+  started : HoldAll (record { members = []; pairs = [] }) (start ring F) F
+  started =
+      generators_held F (record { members = []; pairs = [] })
+      (record {
+        sound = record { monic = record { canonical = λ i l. absurd (omega arith); monic = λ i l. absurd (omega arith) }; inside = λ i l. absurd (omega arith); known = λ q w. absurd w };
+        settled = record { at = λ i j l k. absurd (omega arith) };
+      }) can (λ i l. generator_member ring F pos i l (canonical_of_ring ring (get_or F i []) (can i l)))
+
+  -- the step of a pair
+
+  module _ (G : List (List Term)) (q : Pair) (pairs : List Pair) (h : IsGood (record { members = G; pairs = q ∷ pairs })) where
+    within : q.larger < length G
+    within = (h.sound.known q (inl refl)).within
+
+    within_smaller : q.smaller < length G
+    within_smaller = let k = h.sound.known q (inl refl) in omega (arith, k.apart, k.within)
+
+    sound_rest : IsSound ring F G pairs
+    sound_rest = record { monic = h.sound.monic; inside = h.sound.inside; known = λ x w. h.sound.known x (inr w) }
+
+    s_inside : IsMember ring F (pair_polynomial ring r G h.sound.monic q.smaller q.larger within_smaller within)
+    s_inside =
+        let f : List Term = get_or G q.smaller [] in
+        let g : List Term = get_or G q.larger [] in
+        let m : List ℕ = pair_lcm f g in
+        let lf = lead_at_length ring G pos h.sound.monic q.smaller within_smaller in
+        let lg = lead_at_length ring G pos h.sound.monic q.larger within in
+        let lm : length m ≡ places ring = lcm_length (lead f) (lead g) (places ring) lf lg in
+        same_member ring F pos (pair_alike ring r G h.sound.monic q.smaller q.larger within_smaller within)
+        (sum_member ring F pos (multiple 1 (quotient m (lead f)) f) (multiple (ring.modulus - 1) (quotient m (lead g)) g)
+        (multiple_member ring F pos 1 (quotient m (lead f)) f (quotient_length m (lead f) (places ring) lm lf) (h.sound.inside q.smaller within_smaller))
+        (multiple_member ring F pos (ring.modulus - 1) (quotient m (lead g)) g (quotient_length m (lead g) (places ring) lm lg) (h.sound.inside q.larger within)))
+
+    s_canonical : IsCanonical ring (canonical ring (pair_terms ring G q))
+    s_canonical = pair_canonical ring r G h.sound.monic q.smaller q.larger within_smaller within
+
+    still_inside : (remainder f : List Term) → IsMember ring G f → IsMember ring (with_remainder ring (record { members = G; pairs = pairs }) remainder).members f
+    still_inside [] f i = i
+    still_inside (x ∷ remainder) f i = member_more ring G (monic_of ring (x ∷ remainder) ∷ []) f i
+
+    step_good : (remainder : List Term) (quotients : List (List Term)) → HasDivided ring G (canonical ring (pair_terms ring G q)) remainder quotients → IsGood (with_remainder ring (record { members = G; pairs = pairs }) remainder)
+    step_good [] quotients d = record {
+      sound = sound_rest;
+      settled = taken_settled ring G q pairs h.settled (represented_by_division ring r G h.sound.monic q.smaller q.larger within_smaller within quotients d);
+    }
+    step_good (x ∷ remainder) quotients d =
+        let g : List Term = monic_of ring (x ∷ remainder) in
+        let m : IsMember ring F (x ∷ remainder) = remainder_member ring pos G h.sound.monic F h.sound.inside (canonical ring (pair_terms ring G q)) (x ∷ remainder) quotients d s_inside in
+        let after : List Pair = with_pairs (order_of ring) g (length G) 0 G pairs in
+        record {
+          sound = appended_sound ring F G g pairs sound_rest (monic_canonical ring r x remainder d.canonical_remainder) (monic_one ring r x remainder d.canonical_remainder) (monic_inside x remainder d.canonical_remainder m);
+          settled = taken_settled ring (G ++ g ∷ []) q after
+              (appended_settled ring F G g (q ∷ pairs) (q ∷ after) h.settled
+              (λ x w. elim w as (λ _. IsWaiting x (q ∷ after)) [ inl e ↦ inl e | inr v ↦ inr (pairs_kept (order_of ring) g (length G) 0 G pairs x v) ])
+              (λ k l. let n = new_waits (order_of ring) G g pairs k l in (n.0, inr n.1, n.2, n.3)))
+              (represented_with_remainder ring r G h.sound.monic q.smaller q.larger within_smaller within x remainder quotients d);
+        }
+
+  -- the run
+
+  run_groebner : (steps : ℕ) (G : List (List Term)) (pairs : List Pair) (units left : ℕ) (R : List (List Term)) → IsGood (record { members = G; pairs = pairs })
+      → ((i : ℕ) → i < length F → IsMember ring G (get_or F i [])) → completed_in steps ring (record { members = G; pairs = pairs }) units ≡ done R left → AreMonic ring R × IsGroebnerBasis ring R F
+  run_groebner zero G pairs units left R h f e = absurd (cc)
+  run_groebner (suc steps) G [] units left R h f e =
+      let s : G ≡ R = cc in
+      let basis : IsGroebnerBasis ring G F = complete_groebner ring G F pos h.sound.monic h.sound.inside f (λ i j l k. represented (h.settled.at i j l k)) in
+      subst (λ S. AreMonic ring S × IsGroebnerBasis ring S F) s (h.sound.monic, basis)
+    where
+      represented : {i j : ℕ} → IsSettledAt ring G [] i j → HasLcmRepresentation ring G i j
+      represented (inl q) = absurd q.1
+      represented (inr r) = r
+  run_groebner (suc steps) G (q ∷ pairs) units left R h f e =
+      let a = past_budget (ltb units 1) units _ R left e in
+      let b = past_degree (is_too_high (pair_terms ring G q)) (units - 1) _ R left a in
+      let s : Completion = record { members = G; pairs = pairs } in
+      let w = went_on (divided ring G (units - 1) (canonical ring (pair_terms ring G q))) (λ remainder left. completed_in steps ring (with_remainder ring s remainder) left) R left b in
+      let d = divided_divides ring G pos h.sound.monic (units - 1) w.units (canonical ring (pair_terms ring G q)) w.remainder w.quotients (s_canonical G q pairs h) w.divided in
+      let t : Completion = with_remainder ring s w.remainder in
+      run_groebner steps t.members t.pairs w.units left R (step_good G q pairs h w.remainder w.quotients d) (λ i l. still_inside G q pairs h w.remainder (get_or F i []) (f i l)) w.rest
+
+  -- a completion that ends has found a Gröbner basis of monic members
+  pub completion_groebner : (units left : ℕ) (R : List (List Term)) → completion ring F units ≡ done R left → AreMonic ring R × IsGroebnerBasis ring R F
+  unfolding completion
+  completion_groebner units left R e = run_groebner (suc units) (start ring F).members (start ring F).pairs units left R started.good started.here e

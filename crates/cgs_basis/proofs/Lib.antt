@@ -1,0 +1,7 @@
+pub mod RepresentedLemmas
+pub mod StateLemmas
+pub mod CompletionLemmas
+pub mod BasisLemmas
+pub mod RunLemmas
+pub mod StepLemmas
+pub mod LowLemmas

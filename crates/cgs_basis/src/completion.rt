@@ -1,0 +1,170 @@
+//! Completion: Buchberger's algorithm up to a Gröbner basis that need not be reduced.
+
+ghost use Rattle.std.specs.Prelude.{◌≡◌, ◌<◌, ◌≤◌, ℕ, [], length, slice_index_or, IfOk, OnOk, IsErrOf};
+ghost use Rattle.cgs_poly.specs.Polynomial.{IsRing, IsPoly, order_of};
+ghost use Rattle.cgs_poly.specs.Product.{lead, lead_coefficient};
+ghost use Rattle.cgs_algebra.specs.Groebner.{AreMonic, IsGroebnerBasis};
+ghost use Rattle.cgs_algebra.specs.SPolynomial.{pair_lcm};
+ghost use Rattle.cgs_divide.specs.AutoreductionRun.{done, out_of_budget, out_of_degree};
+ghost use Rattle.cgs_pairs.specs.PairOrder.{pair};
+ghost use Rattle.cgs_basis.specs.BasisRun.{appended, with_pairs, with_generator, with_remainder, completion};
+ghost use Rattle.cgs_basis.specs.BasisRun as run;
+ghost use Rattle.cgs_basis.specs.Completion.{IsCompletion};
+
+use cgs_divide::{Stop, divide, spend};
+use cgs_exps::{MAX_PLACES, Powers, lcm_into};
+use cgs_pairs::{Pair, Queue, s_polynomial};
+use cgs_poly::{Poly, PolyList, Ring, is_among};
+use std::alloc::{AllocError, Global};
+
+/// A Gröbner basis of the ideal of the generators, with them at the front. A pair costs one unit, and the remainder of
+/// its S-polynomial is put at the end. Units and errors are as for `divide`.
+pub fn complete(
+    alloc: Global,
+    ring: &Ring,
+    generators: &PolyList,
+    fuel: &mut u64,
+) -> Result<PolyList, Stop>
+    requires ring { IsRing ring.now }
+    requires polys { (i : ℕ) → i < length generators.now → IsPoly ring.now (slice_index_or generators.now i []) }
+    ensures ok { IfOk result (λ G. completion ring.now generators.now fuel.old ≡ done G fuel.new) }
+    ensures basis { IfOk result (λ G. IsGroebnerBasis ring.now G generators.now) }
+    ensures monic { IfOk result (λ G. AreMonic ring.now G) }
+    ensures polys { IfOk result (λ G. (i : ℕ) → i < length G → IsPoly ring.now (slice_index_or G i [])) }
+    ensures budget { IsErrOf result Stop.Budget → completion ring.now generators.now fuel.old ≡ out_of_budget fuel.new }
+    ensures degree { IsErrOf result Stop.Degree → completion ring.now generators.now fuel.old ≡ out_of_degree fuel.new }
+    ensures units { fuel.new ≤ fuel.old }
+{
+    let mut members = PolyList::new(alloc);
+    let mut queue = Queue::new(alloc, ring.order());
+    for i in 0..generators.len() {
+        append_generator(alloc, ring, &mut members, &mut queue, generators.get(i))?;
+    }
+    while let Some(pair) = queue.take_least() {
+        spend(fuel, 1)?;
+        let s = s_polynomial(
+            alloc,
+            ring,
+            members.get(pair.smaller),
+            members.get(pair.larger),
+        )?;
+        let division = divide(alloc, ring, &s, &members, fuel)?;
+        append_remainder(alloc, ring, &mut members, &mut queue, &division.remainder)?;
+    }
+    Ok(members)
+}
+
+// Puts a generator, made monic, at the end, unless it is 0 or is there.
+fn append_generator(
+    alloc: Global,
+    ring: &Ring,
+    members: &mut PolyList,
+    queue: &mut Queue,
+    f: &Poly,
+) -> Result<(), AllocError>
+    requires ring { IsRing ring.now }
+    requires completion { IsCompletion ring.now members.old queue.old }
+    requires poly { IsPoly ring.now f.now }
+    ensures state { OnOk result (run.completion_of members.new queue.new ≡ with_generator ring.now (run.completion_of members.old queue.old) f.now) }
+    ensures completion { OnOk result (IsCompletion ring.now members.new queue.new) }
+{
+    if f.len() == 0 {
+        return Ok(());
+    }
+    let monic = Poly::monic(alloc, ring, f)?;
+    if !is_among(&monic, members) {
+        append(alloc, ring, members, queue, monic)?;
+    }
+    Ok(())
+}
+
+// Puts a remainder, made monic, at the end, unless it is 0.
+fn append_remainder(
+    alloc: Global,
+    ring: &Ring,
+    members: &mut PolyList,
+    queue: &mut Queue,
+    f: &Poly,
+) -> Result<(), AllocError>
+    requires ring { IsRing ring.now }
+    requires completion { IsCompletion ring.now members.old queue.old }
+    requires poly { IsPoly ring.now f.now }
+    ensures state { OnOk result (run.completion_of members.new queue.new ≡ with_remainder ring.now (run.completion_of members.old queue.old) f.now) }
+    ensures completion { OnOk result (IsCompletion ring.now members.new queue.new) }
+{
+    if f.len() == 0 {
+        return Ok(());
+    }
+    let member = Poly::monic(alloc, ring, f)?;
+    append(alloc, ring, members, queue, member)?;
+    Ok(())
+}
+
+// Puts a monic polynomial at the end, and its pairs with the members before it into the queue.
+fn append(
+    alloc: Global,
+    ring: &Ring,
+    members: &mut PolyList,
+    queue: &mut Queue,
+    g: Poly,
+) -> Result<(), AllocError>
+    requires ring { IsRing ring.now }
+    requires completion { IsCompletion ring.now members.old queue.old }
+    requires poly { IsPoly ring.now g }
+    requires lead { lead_coefficient g ≡ 1 }
+    ensures state { OnOk result (run.completion_of members.new queue.new ≡ appended ring.now (run.completion_of members.old queue.old) g) }
+    ensures completion { OnOk result (IsCompletion ring.now members.new queue.new) }
+{
+    queue_pairs(alloc, ring, members, queue, &g)?;
+    members.push(g)?;
+    Ok(())
+}
+
+// Puts the pairs of a polynomial at the end with the members before it into the queue.
+fn queue_pairs(
+    alloc: Global,
+    ring: &Ring,
+    members: &PolyList,
+    queue: &mut Queue,
+    g: &Poly,
+) -> Result<(), AllocError>
+    requires ring { IsRing ring.now }
+    requires completion { IsCompletion ring.now members.now queue.old }
+    requires poly { IsPoly ring.now g.now }
+    requires lead { lead_coefficient g.now ≡ 1 }
+    ensures { OnOk result (queue.new ≡ record { order = queue.old.order; pairs = with_pairs (order_of ring.now) g.now (length members.now) 0 members.now queue.old.pairs }) }
+{
+    let place = members.len();
+    for i in 0..place {
+        let pair = pair_of(alloc, members.get(i), g, place, i)?;
+        queue.push(pair)?;
+    }
+    Ok(())
+}
+
+// The pair of two polynomials at two places.
+fn pair_of(
+    alloc: Global,
+    f: &Poly,
+    g: &Poly,
+    larger: usize,
+    smaller: usize,
+) -> Result<Pair, AllocError>
+    requires first { 0 < length f.now }
+    requires second { 0 < length g.now }
+    requires same_places { length (lead f.now) ≡ length (lead g.now) }
+    requires places { length (lead f.now) ≤ MAX_PLACES }
+    ensures { IfOk result (λ q. q ≡ pair (pair_lcm f.now g.now) larger smaller) }
+{
+    let (a, b) = (f.term(0).exponents, g.term(0).exponents);
+    let mut room = [0; MAX_PLACES];
+    let lcm = &mut room[..a.len()];
+    lcm_into(a, b, lcm);
+    let mut powers = Powers::new(alloc);
+    powers.extend_from_slice(lcm)?;
+    Ok(Pair {
+        lcm: powers,
+        larger,
+        smaller,
+    })
+}

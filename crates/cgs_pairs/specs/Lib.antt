@@ -1,0 +1,3 @@
+pub mod PairOrder
+pub mod Stored
+pub mod Examples

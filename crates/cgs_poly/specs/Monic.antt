@@ -1,0 +1,10 @@
+-- Monic polynomials: the multiple by a number whose leading coefficient is 1.
+use Rattle.std.specs.Prelude.{List}
+use Rattle.cgs_field.specs.Inverse.{inverse}
+use Rattle.cgs_poly.specs.declared.ring.Ring.{Ring}
+use Rattle.cgs_poly.specs.Polynomial.{Term, canonical}
+use Rattle.cgs_poly.specs.Product.{scaled, lead_coefficient}
+
+-- f divided by its leading coefficient; 0 stays 0
+unfoldable pub monic_of : Ring → List Term → List Term
+monic_of ring f = canonical ring (scaled (inverse ring.modulus (lead_coefficient f)) f)

@@ -1,0 +1,58 @@
+//! Lists of polynomials: copies, and whether polynomials and lists are equal.
+
+ghost use Rattle.std.specs.Prelude.{◌≡◌, ◌↔◌, ◌++◌, IsTrue, IfOk};
+ghost use Rattle.cgs_poly.specs.Same.{is_among};
+
+use crate::poly::{Poly, PolyList};
+use std::alloc::{AllocError, Global};
+
+/// Copies of all polynomials of a list.
+pub fn copied(alloc: Global, list: &PolyList) -> Result<PolyList, AllocError>
+    ensures { IfOk result (λ copy. copy ≡ list.now) }
+{
+    let mut copy = PolyList::new(alloc);
+    for i in 0..list.len() {
+        let poly = list.get(i).copy()?;
+        copy.push(poly)?;
+    }
+    Ok(copy)
+}
+
+/// Copies of all polynomials of two lists, one list after the other.
+pub fn joined(alloc: Global, list: &PolyList, more: &PolyList) -> Result<PolyList, AllocError>
+    ensures { IfOk result (λ whole. whole ≡ list.now ++ more.now) }
+{
+    let mut whole = copied(alloc, list)?;
+    for i in 0..more.len() {
+        let poly = more.get(i).copy()?;
+        whole.push(poly)?;
+    }
+    Ok(whole)
+}
+
+/// Whether two lists are equal.
+pub fn are_same(list: &PolyList, other: &PolyList) -> bool
+    ensures { IsTrue result ↔ (list.now ≡ other.now) }
+{
+    if list.len() != other.len() {
+        return false;
+    }
+    for i in 0..list.len() {
+        if !list.get(i).same(other.get(i)) {
+            return false;
+        }
+    }
+    true
+}
+
+/// Whether a polynomial stands in a list.
+pub fn is_among(f: &Poly, list: &PolyList) -> bool
+    ensures { result ≡ is_among f.now list.now }
+{
+    for i in 0..list.len() {
+        if f.same(list.get(i)) {
+            return true;
+        }
+    }
+    false
+}

@@ -1,0 +1,5 @@
+pub mod ConditionLemmas
+pub mod AddingLemmas
+pub mod SingleLemmas
+pub mod ExampleLemmas
+pub mod CoverLemmas

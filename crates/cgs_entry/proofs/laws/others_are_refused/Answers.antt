@@ -1,0 +1,11 @@
+use Rattle.cgs_entry.proofs.ExampleLemmas.{gap_refused, overlap_refused, wrong_basis_refused, vanishing_lead_refused, repeated_lead_refused}
+use Rattle.cgs_entry.proofs.laws.others_are_refused.Goals as goal
+
+pub returns : goal.returns
+returns c = record {
+  gap = gap_refused;
+  overlap = overlap_refused;
+  wrong_basis = wrong_basis_refused;
+  vanishing_lead = vanishing_lead_refused;
+  repeated_lead = repeated_lead_refused;
+}

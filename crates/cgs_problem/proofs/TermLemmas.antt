@@ -1,6 +1,6 @@
 -- A polynomial is a list of terms of the ring that fall.
-use Rattle.std.proofs.Common.{◌≡◌, ℕ, ◌+◌, ◌-◌, ◌≤◌, ◌↔◌, true, false, IsTrue, List, [], ◌∷◌, length, take, drop, replicate, Bool, Some, subst, sym, ap, ◌∙◌, arith}
-use Rattle.std.proofs.lemmas.List.{length-take, length-drop}
+use Rattle.std.proofs.Common.{◌≡◌, ℕ, ◌+◌, ◌-◌, ◌≤◌, ◌↔◌, true, false, IsTrue, List, [], ◌∷◌, length, drop, Some, subst, sym, ap, ◌∙◌, arith}
+use Rattle.std.proofs.lemmas.List.{length-drop}
 use Rattle.std.specs.List.{slice_get, AllByRecursion}
 use Rattle.std.specs.declared.cmp.Ordering.{Ordering}
 use Rattle.std.specs.declared.cmp.Ordering.TheVariants.{Less}
@@ -9,7 +9,7 @@ use Rattle.cgs_order.specs.TermOrder.{compared}
 use Rattle.cgs_poly.specs.declared.ring.Ring.{Ring}
 use Rattle.cgs_poly.specs.Polynomial.{Term, IsRing, IsPoly, IsCanonical, HasLowDegrees, places, order_of}
 use Rattle.cgs_problem.specs.Terms.{IsTermOf, Falls}
-use Rattle.cgs_problem.proofs.ListLemmas.{is_false, is_true, drop_at, all_at}
+use Rattle.cgs_list.proofs.ListLemmas.{is_false, is_true, drop_at, all_at}
 
 terms_of : (ring : Ring) (f : List Term) → IsCanonical ring f → HasLowDegrees f → AllByRecursion (IsTermOf ring) f
 terms_of ring [] c l = tt
@@ -81,10 +81,3 @@ pub falls_to_end : (ring : Ring) (all : Type 0) (f : List Term) (i : ℕ) → le
 falls_to_end ring all f i le so_far =
     let short : length (drop (i - 1) f) ≤ 1 = omega (arith, length-drop (i - 1) f) in
     is_true (so_far.0 (one_falls ring (drop (i - 1) f) short))
-
-pub variables_within : (ring : Ring) (f : List Term) (i : ℕ) (x : Term) → IsPoly ring f → slice_get f i ≡ Some x → ring.variables ≡ length (take ring.variables x.exponents)
-variables_within ring f i x poly e = omega (arith, length-take ring.variables x.exponents, poly_length ring f i x poly e)
-
--- the first places of a monomial are 0
-pub zero_here : (v : ℕ) (m : List ℕ) (b : Bool) → v ≡ length (take v m) → (IsTrue b ↔ (take v m ≡ replicate (length (take v m)) 0)) → IsTrue b ↔ (take v m ≡ replicate v 0)
-zero_here v m b e told = subst (λ n. IsTrue b ↔ (take v m ≡ replicate n 0)) (sym e) told

@@ -1,20 +1,12 @@
 -- What a problem may be.
-use Rattle.std.specs.Prelude.{◌≡◌, ◌≤◌, List, length, take, replicate, bytes_eq, IfSome}
+use Rattle.std.specs.Prelude.{◌≡◌, ◌≤◌, List, length, bytes_eq, IfSome}
 use Rattle.std.specs.List.{AllByRecursion, IsDistinct}
 use Rattle.cgs_exps.specs.Monomial.{degree}
 use Rattle.cgs_poly.specs.declared.ring.Ring.{Ring}
 use Rattle.cgs_poly.specs.Polynomial.{Term, IsRing, IsPoly, places}
+use Rattle.cgs_poly.specs.Parameters.{IsCondition}
 use Rattle.cgs_point.specs.Points.{IsPoint}
 use Rattle.cgs_problem.specs.declared.problem.Problem.{Problem}
-
--- no variable stands in any monomial
-abbrev pub HasNoVariable : Ring → List Term → Type 0
-HasNoVariable ring f = AllByRecursion (λ (x : Term). take ring.variables x.exponents ≡ replicate ring.variables 0) f
-
--- a polynomial of the ring in the parameters alone
-pub record IsCondition (ring : Ring) (f : List Term) : Type 0 where
-  pub poly : IsPoly ring f
-  pub parametric : HasNoVariable ring f
 
 -- a polynomial of the ring that leaves room for one more degree
 pub record IsThesis (ring : Ring) (f : List Term) : Type 0 where

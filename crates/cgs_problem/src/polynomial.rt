@@ -1,10 +1,11 @@
 //! Whether terms make a polynomial of a ring, a condition or a thesis.
 
-ghost use Rattle.std.specs.Prelude.{◌≡◌, ◌≤◌, ◌↔◌, IsTrue, length, replicate};
+ghost use Rattle.std.specs.Prelude.{◌↔◌, IsTrue};
 ghost use Rattle.std.specs.List.{AllByRecursion};
 ghost use Rattle.cgs_exps.specs.Monomial.{degree};
 ghost use Rattle.cgs_poly.specs.Polynomial.{IsRing, IsPoly, places, term};
-ghost use Rattle.cgs_problem.specs.Problems.{HasNoVariable, IsCondition, IsThesis};
+ghost use Rattle.cgs_poly.specs.Parameters.{IsCondition};
+ghost use Rattle.cgs_problem.specs.Problems.{IsThesis};
 ghost use Rattle.cgs_problem.specs.Terms.{IsTermOf, Falls, HasRoom};
 
 use cgs_exps::{MAX_DEGREE, degree};
@@ -27,7 +28,7 @@ pub(crate) fn is_condition(ring: &Ring, f: &Poly) -> bool
     requires { IsRing ring.now }
     ensures { IsTrue result ↔ IsCondition ring.now f.now }
 {
-    is_poly(ring, f) && has_no_variable(ring, f)
+    is_poly(ring, f) && f.has_no_variables(ring)
 }
 
 /// Whether it is a polynomial that may be multiplied by one more variable.
@@ -72,25 +73,6 @@ fn falls(ring: &Ring, f: &Poly) -> bool
         };
     }
     true
-}
-
-fn has_no_variable(ring: &Ring, f: &Poly) -> bool
-    requires { IsPoly ring.now f.now }
-    ensures { IsTrue result ↔ HasNoVariable ring.now f.now }
-{
-    let variables = ring.variables as usize;
-    for i in 0..f.len() {
-        if !are_zero(&f.term(i).exponents[..variables]) {
-            return false;
-        }
-    }
-    true
-}
-
-fn are_zero(exponents: &[u16]) -> bool
-    ensures { IsTrue result ↔ (exponents.now ≡ replicate (length exponents.now) 0) }
-{
-    exponents.iter().all(|e| *e == 0)
 }
 
 // Whether each degree is below the greatest one.

@@ -1,10 +1,11 @@
 //! Whether a problem is valid.
 
-ghost use Rattle.std.specs.Prelude.{◌≡◌, ◌<◌, ◌↔◌, IsTrue, IfSome, bytes_eq, length};
+ghost use Rattle.std.specs.Prelude.{◌≡◌, ◌<◌, ◌↔◌, IsTrue, IfSome, bytes_eq};
 ghost use Rattle.std.specs.List.{AllByRecursion, IsDistinct, list_any};
 ghost use Rattle.cgs_poly.specs.Polynomial.{IsRing, IsPoly, places};
+ghost use Rattle.cgs_poly.specs.Parameters.{IsCondition};
 ghost use Rattle.cgs_point.specs.Points.{IsPoint};
-ghost use Rattle.cgs_problem.specs.Problems.{IsProblem, IsCondition, IsThesis};
+ghost use Rattle.cgs_problem.specs.Problems.{IsProblem, IsThesis};
 
 use crate::polynomial::{is_condition, is_poly, is_thesis};
 use crate::problem::{Problem, Text};

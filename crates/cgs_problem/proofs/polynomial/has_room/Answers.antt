@@ -2,7 +2,7 @@ use Rattle.std.proofs.Common.{◌≤◌, arith}
 use Rattle.cgs_exps.specs.Monomial.{degree}
 use Rattle.cgs_poly.specs.Polynomial.{Term}
 use Rattle.cgs_problem.specs.Terms.{HasRoom}
-use Rattle.cgs_problem.proofs.ListLemmas.{passes, fails}
+use Rattle.cgs_list.proofs.ListLemmas.{passes, fails}
 use Rattle.cgs_problem.proofs.TermLemmas.{ring_places, poly_length}
 use Rattle.cgs_problem.proofs.polynomial.has_room.Goals as goal
 

@@ -1,7 +1,7 @@
 use Rattle.std.proofs.Common.{IsTrue, rules}
 use Rattle.std.specs.List.{AllByRecursion}
 use Rattle.cgs_problem.specs.Terms.{IsTermOf}
-use Rattle.cgs_problem.proofs.ListLemmas.{passes}
+use Rattle.cgs_list.proofs.ListLemmas.{passes}
 use Rattle.cgs_problem.proofs.polynomial.has_terms_of.Goals as goal
 
 pub loop-i-preserved : goal.loop-i-preserved

@@ -1,6 +1,6 @@
 use Rattle.std.proofs.Common.{◌≡◌, ◌↔◌, true, false, ◌∷◌, length, bytes_eq, subst, rules}
 use Rattle.std.specs.List.{list_any, IsDistinct}
-use Rattle.cgs_problem.proofs.ListLemmas.{new_name, old_name, no_names}
+use Rattle.cgs_problem.proofs.NameLemmas.{new_name, old_name, no_names}
 use Rattle.cgs_problem.proofs.validity.are_distinct.Goals as goal
 
 pub returns-then-contains : goal.returns-then-contains

@@ -1,0 +1,237 @@
+//! Conditions on the parameters: emptiness runs, points, lists of conditions, leading coefficients.
+
+ghost use Rattle.std.specs.Prelude.{◌≡◌, [], IfOk, ◌↔◌, IsTrue};
+ghost use Rattle.std.specs.List.{AllByRecursion};
+ghost use Rattle.cgs_poly.specs.Polynomial.{IsPoly};
+ghost use Rattle.cgs_poly.specs.Parameters.{IsCondition};
+ghost use Rattle.cgs_problem.specs.Problems.{IsProblem};
+
+use crate::given::{
+    LINE, TWO_PARAMETERS, condition_at, first_point, is_text, poly_at, printed, problem_of,
+};
+use cgs_dickson::{coefficient_list, minimal_dickson};
+use cgs_divide::Stop;
+use cgs_entry::{Conditions, add};
+use cgs_point::{specialise, vanishes};
+use cgs_poly::{Poly, PolyList, Ring};
+use cgs_print::basis_text;
+use cgs_problem::{NameList, Problem, Text};
+use cgs_radical::test_empty;
+use std::alloc::Global;
+use std::test::Fail;
+
+/// Conditions, units, whether they contradict each other, and the units that are left.
+const EMPTINESS: [(&str, u64, Result<bool, Stop>, u64); 10] = [
+    ("", 2, Ok(false), 0),
+    ("", 1, Err(Stop::Budget), 0),
+    ("zero a\nnonzero a\n", 3, Ok(true), 0),
+    ("zero a\nnonzero a\n", 2, Err(Stop::Budget), 0),
+    ("nonzero a\n", 4, Ok(false), 0),
+    ("nonzero a\n", 3, Err(Stop::Budget), 0),
+    ("zero a\n", 6, Ok(false), 0),
+    ("zero a\n", 5, Err(Stop::Budget), 0),
+    ("zero 1\n", 4, Ok(true), 0),
+    ("zero 1\n", 3, Err(Stop::Budget), 0),
+];
+
+fn is_empty(alloc: Global, problem: Problem, fuel: &mut u64) -> Result<bool, Stop>
+    requires { IsProblem problem }
+{
+    let Problem {
+        ring,
+        zero,
+        nonzero,
+        ..
+    } = problem;
+    let conditions = Conditions { zero, nonzero };
+    test_empty(alloc, &ring, &conditions, fuel)
+}
+
+#[test]
+fn emptiness(rt: HostRuntime) -> Result<(), Fail> {
+    for (lines, units, want, left) in EMPTINESS {
+        let problem = problem_of(rt.alloc(), LINE, lines)?;
+        let mut fuel = units;
+        let found = is_empty(rt.alloc(), problem, &mut fuel);
+        assert_eq!(rt; (found, fuel), (want, left), "{units} units of {lines}");
+    }
+    Ok(())
+}
+
+/// A polynomial and a point, what it becomes there; a condition, and whether it is 0 there.
+const POINTS: [(&str, &str, bool); 5] = [
+    ("poly a*x+6\nzero a+4\npoint 3\n", "3*x+6", true),
+    ("poly a*x+6\nzero a+4\npoint 0\n", "6", false),
+    (
+        "poly a^10*x+2*a*x+a*x^2\nzero a^2-a\npoint 3\n",
+        "3*x^2+3*x",
+        false,
+    ),
+    ("poly a*x\nzero a^6-1\npoint 12\n", "5*x", true),
+    ("poly 0\nzero a+4\npoint 5\n", "0", false),
+];
+
+fn becomes(alloc: Global, problem: &Problem) -> Result<Text, Fail>
+    requires { IsProblem problem.now }
+{
+    let f = poly_at(problem, 0).ok_or("no polynomial")?;
+    let point = first_point(problem).ok_or("no point")?;
+    let special = specialise(alloc, &problem.ring, f, point)?;
+    let ring = Ring {
+        parameters: 0,
+        ..problem.ring
+    };
+    printed(alloc, &ring, &problem.names, &special)
+}
+
+fn holds(problem: &Problem) -> Result<bool, Fail>
+    requires { IsProblem problem.now }
+{
+    let f = condition_at(problem, 0).ok_or("no condition")?;
+    let point = first_point(problem).ok_or("no point")?;
+    Ok(vanishes(&problem.ring, f, point))
+}
+
+#[test]
+fn points(rt: HostRuntime) -> Result<(), Fail> {
+    for (lines, text, want) in POINTS {
+        let problem = problem_of(rt.alloc(), LINE, lines)?;
+        assert!(rt; is_text(&becomes(rt.alloc(), &problem)?, text), "{lines}");
+        assert_eq!(rt; holds(&problem)?, want, "{lines}");
+    }
+    Ok(())
+}
+
+// The first polynomial, in the ring with one variable more, which stands first.
+fn raised(alloc: Global, problem: &Problem, names: &NameList) -> Result<Text, Fail>
+    requires { IsProblem problem.now }
+{
+    let from = problem.ring;
+    if from.variables > 8 {
+        return Err("too many variables".into());
+    }
+    let to = Ring {
+        variables: from.variables + 1,
+        ..from
+    };
+    let f = poly_at(problem, 0).ok_or("no polynomial")?;
+    let recast = Poly::recast(alloc, &from, &to, f)?;
+    printed(alloc, &to, names, &recast)
+}
+
+// The first condition, in the ring with one variable.
+fn lifted(alloc: Global, problem: &Problem, names: &NameList) -> Result<Text, Fail>
+    requires { IsProblem problem.now }
+{
+    let from = problem.ring;
+    let to = Ring {
+        variables: 1,
+        ..from
+    };
+    let f = condition_at(problem, 0).ok_or("no condition")?;
+    let recast = Poly::recast(alloc, &from, &to, f)?;
+    printed(alloc, &to, names, &recast)
+}
+
+#[test]
+fn recast(rt: HostRuntime) -> Result<(), Fail> {
+    let one = problem_of(
+        rt.alloc(),
+        "field 7\nparameters a\nvariables z\norder lex\n",
+        "",
+    )?;
+    let two = problem_of(
+        rt.alloc(),
+        "field 7\nparameters a\nvariables x y\norder grevlex\n",
+        "poly a*x*y+3*y+a^2\nzero 2*a^2+6\n",
+    )?;
+    let three = problem_of(
+        rt.alloc(),
+        "field 7\nparameters a\nvariables z x y\norder lex\n",
+        "",
+    )?;
+    assert!(rt; is_text(&raised(rt.alloc(), &two, &three.names)?, "a*x*y+3*y+a^2"));
+    assert!(rt; is_text(&lifted(rt.alloc(), &two, &one.names)?, "2*a^2+6"));
+    Ok(())
+}
+
+// The conditions of a problem added to each other.
+fn added(alloc: Global, problem: &Problem) -> Result<PolyList, Fail>
+    requires { IsProblem problem.now }
+    ensures { IfOk result (λ list. AllByRecursion (IsPoly problem.now.ring) list) }
+{
+    let mut list = PolyList::new(alloc);
+    for i in 0..problem.zero.len() {
+        let f = condition_at(problem, i).ok_or("no condition")?;
+        add(alloc, &problem.ring, &mut list, f)?;
+    }
+    Ok(list)
+}
+
+#[test]
+fn lists(rt: HostRuntime) -> Result<(), Fail> {
+    let problem = problem_of(
+        rt.alloc(),
+        LINE,
+        "zero a\nzero 3*a\nzero 0\nzero 0\nzero 5\n",
+    )?;
+    let mut out = Text::new(rt.alloc());
+    basis_text(&problem, &added(rt.alloc(), &problem)?, &mut out)?;
+    assert!(rt; is_text(&out, "basis a\nbasis 0\nbasis 1\nmembers 3\n"));
+    Ok(())
+}
+
+/// Polynomials, those of the minimal Dickson basis, and its leading coefficients that are not constant.
+const DICKSON: [(&str, &str, &str); 4] = [
+    (
+        "poly b*x\npoly a*x\n",
+        "basis b*x\nmembers 1\n",
+        "basis b\nmembers 1\n",
+    ),
+    // the least leading monomial, wherever it stands
+    (
+        "poly a*x\npoly b*x\npoly a*x^2\n",
+        "basis b*x\nmembers 1\n",
+        "basis b\nmembers 1\n",
+    ),
+    // a constant is no condition, and a leading coefficient is made monic
+    ("poly 3*x+a\n", "basis 3*x+a\nmembers 1\n", "members 0\n"),
+    (
+        "poly 3*a*x^2+2*b*x^2+x\n",
+        "basis 3*a*x^2+2*b*x^2+x\nmembers 1\n",
+        "basis a+3*b\nmembers 1\n",
+    ),
+];
+
+// Whether 0 is not among the polynomials.
+fn have_leads(list: &PolyList) -> bool
+    ensures { IsTrue result → AllByRecursion (λ g. ¬ (g ≡ [])) list.now }
+{
+    list.as_slice().iter().all(|f| f.len() > 0)
+}
+
+// The texts of the minimal Dickson basis of a problem's polynomials and of its leading coefficients.
+fn dickson(alloc: Global, problem: &Problem) -> Result<(Text, Text), Fail>
+    requires { IsProblem problem.now }
+{
+    if !have_leads(&problem.polys) {
+        return Err("a polynomial is 0".into());
+    }
+    let kept = minimal_dickson(alloc, &problem.ring, &problem.polys)?;
+    let coefficients = coefficient_list(alloc, &problem.ring, &kept)?;
+    let (mut first, mut second) = (Text::new(alloc), Text::new(alloc));
+    basis_text(problem, &kept, &mut first)?;
+    basis_text(problem, &coefficients, &mut second)?;
+    Ok((first, second))
+}
+
+#[test]
+fn dickson_bases(rt: HostRuntime) -> Result<(), Fail> {
+    for (lines, kept, coefficients) in DICKSON {
+        let problem = problem_of(rt.alloc(), TWO_PARAMETERS, lines)?;
+        let (first, second) = dickson(rt.alloc(), &problem)?;
+        assert!(rt; is_text(&first, kept), "{lines}");
+        assert!(rt; is_text(&second, coefficients), "{lines}");
+    }
+    Ok(())
+}

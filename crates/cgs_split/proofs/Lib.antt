@@ -1,0 +1,15 @@
+pub mod InverseLemmas
+pub mod ConditionLemmas
+pub mod PartitionLemmas
+pub mod OneLemmas
+pub mod IdealLemmas
+pub mod NodeLemmas
+pub mod TreeLemmas
+pub mod StandardLemmas
+pub mod PreorderLemmas
+pub mod NodeRunLemmas
+pub mod PreparedLemmas
+pub mod ChildLemmas
+pub mod CodeLemmas
+pub mod ExampleLemmas
+pub mod OfRingLemmas

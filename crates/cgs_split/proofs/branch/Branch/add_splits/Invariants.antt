@@ -1,0 +1,12 @@
+use Rattle.std.proofs.Common.{◌≡◌, ◌++◌, drop}
+use Rattle.std.specs.List.{AllByRecursion}
+use Rattle.cgs_poly.specs.Parameters.{IsCondition}
+use Rattle.cgs_split.specs.Nodes.{split_children}
+use Rattle.cgs_split.proofs.branch.Branch.add_splits.Given as goal
+
+abbrev pub invariant-loop-i : goal.invariant-loop-i
+invariant-loop-i l = record {
+  made : l.all.items ++ split_children l.ring l.self l.parametric l.before l.other (drop l.i l.coefficients) ≡ l.fn.all.items
+      ++ split_children l.ring l.self l.parametric l.nonzero l.other l.coefficients;
+  conditions : AllByRecursion (IsCondition l.ring) l.before;
+}

@@ -1,0 +1,12 @@
+use Rattle.std.proofs.Common.{◌≡◌, ◌++◌, drop}
+use Rattle.std.specs.List.{AllByRecursion}
+use Rattle.cgs_poly.specs.Parameters.{IsCondition}
+use Rattle.cgs_split.specs.Nodes.{unit_children}
+use Rattle.cgs_split.proofs.branch.Branch.add_units.Given as goal
+
+abbrev pub invariant-loop-i : goal.invariant-loop-i
+invariant-loop-i l = record {
+  made : l.all.items ++ unit_children l.ring l.self l.before l.nonzero (drop l.i l.parametric) ≡ l.fn.all.items
+      ++ unit_children l.ring l.self l.zero l.nonzero l.parametric;
+  conditions : AllByRecursion (IsCondition l.ring) l.before;
+}

@@ -1,0 +1,140 @@
+//! The children of a branch that has a basis.
+
+ghost use Rattle.std.specs.Prelude.{◌≡◌, ◌++◌, ◌<◌, [], IfOk, OnOk};
+ghost use Rattle.std.specs.List.{AllByRecursion};
+ghost use Rattle.cgs_poly.specs.Polynomial.{IsRing, IsPoly, one};
+ghost use Rattle.cgs_poly.specs.Parameters.{IsCondition};
+ghost use Rattle.cgs_algebra.specs.Stability.{other_members as others};
+ghost use Rattle.cgs_dickson.specs.Dickson.{minimal_dickson as dickson};
+ghost use Rattle.cgs_entry.specs.Conditions.{with_members};
+ghost use Rattle.cgs_split.specs.declared.kind.BranchKind.TheVariants.{Main};
+ghost use Rattle.cgs_split.specs.Cases.{case_like};
+ghost use Rattle.cgs_split.specs.Nodes.{unit_children, split_children, children_of as children};
+
+use crate::branch::Branch;
+use crate::kind::BranchKind;
+use crate::lists::{other_members, parametric_members, with_condition, with_conditions};
+use cgs_dickson::{coefficient_list, minimal_dickson};
+use cgs_entry::{Conditions, add};
+use cgs_poly::{PolyList, Ring, copied};
+use cgs_radical::one_alone;
+use std::alloc::{AllocError, Global};
+
+impl Branch {
+    /// The children of a branch that has this basis: for each member in the parameters alone a branch where it is the first that does not
+    /// vanish, one where no leading coefficient of the Dickson basis vanishes, and for each of these one where it is the first that does.
+    pub(crate) fn children(
+        &self,
+        alloc: Global,
+        basis: &PolyList,
+    ) -> Result<Vec<Branch>, AllocError>
+        requires polys { AllByRecursion (IsPoly self.now.ring) basis.now }
+        requires nonzero { AllByRecursion (λ g. ¬ (g ≡ [])) basis.now }
+        ensures { IfOk result (λ all. all.items ≡ children self.now.ring self.now basis.now (dickson self.now.ring (others self.now.ring basis.now))) }
+    {
+        let ring = &self.ring;
+        let Conditions { zero, nonzero } = &self.conditions;
+        let parametric = parametric_members(alloc, ring, basis)?;
+        let other = other_members(alloc, ring, basis)?;
+        let kept = minimal_dickson(alloc, ring, &other)?;
+        let coefficients = coefficient_list(alloc, ring, &kept)?;
+        let mut all = Vec::new(alloc);
+        self.add_units(alloc, ring, zero, nonzero, &parametric, &mut all)?;
+        let main = self.main_child(alloc, ring, nonzero, &parametric, &coefficients, &kept)?;
+        all.push(main)?;
+        self.add_splits(
+            alloc,
+            ring,
+            nonzero,
+            &parametric,
+            &coefficients,
+            &other,
+            &mut all,
+        )?;
+        Ok(all)
+    }
+
+    // For each polynomial a branch where those before it vanish and it does not.
+    fn add_units(
+        &self,
+        alloc: Global,
+        ring: &Ring,
+        zero: &PolyList,
+        nonzero: &PolyList,
+        parametric: &PolyList,
+        all: &mut Vec<Branch>,
+    ) -> Result<(), AllocError>
+        requires valid { IsRing ring.now }
+        requires ring { ring.now ≡ self.now.ring }
+        requires zero { AllByRecursion (IsCondition ring.now) zero.now }
+        requires nonzero { AllByRecursion (IsCondition ring.now) nonzero.now }
+        requires parametric { AllByRecursion (IsCondition ring.now) parametric.now }
+        ensures { OnOk result (all.new.items ≡ all.old.items ++ unit_children ring.now self.now zero.now nonzero.now parametric.now) }
+    {
+        let mut before = copied(alloc, zero)?;
+        for i in 0..parametric.len() {
+            let g = parametric.get(i);
+            let vanish = copied(alloc, &before)?;
+            let stand = with_condition(alloc, ring, nonzero, g)?;
+            let polys = one_alone(alloc, ring)?;
+            all.push(self.child(BranchKind::Unit, vanish, stand, polys))?;
+            add(alloc, ring, &mut before, g)?;
+        }
+        Ok(())
+    }
+
+    // The branch where the members in the parameters alone vanish and no leading coefficient does.
+    fn main_child(
+        &self,
+        alloc: Global,
+        ring: &Ring,
+        nonzero: &PolyList,
+        parametric: &PolyList,
+        coefficients: &PolyList,
+        kept: &PolyList,
+    ) -> Result<Branch, AllocError>
+        requires valid { IsRing ring.now }
+        requires ring { ring.now ≡ self.now.ring }
+        requires nonzero { AllByRecursion (IsCondition ring.now) nonzero.now }
+        requires parametric { AllByRecursion (IsCondition ring.now) parametric.now }
+        requires coefficients { AllByRecursion (IsCondition ring.now) coefficients.now }
+        requires kept { AllByRecursion (IsPoly ring.now) kept.now }
+        ensures { IfOk result (λ child. child ≡ case_like self.now Main parametric.now (with_members ring.now nonzero.now coefficients.now) kept.now) }
+    {
+        let vanish = copied(alloc, parametric)?;
+        let stand = with_conditions(alloc, ring, nonzero, coefficients)?;
+        let polys = copied(alloc, kept)?;
+        Ok(self.child(BranchKind::Main, vanish, stand, polys))
+    }
+
+    // For each leading coefficient a branch where it vanishes and those before it do not.
+    fn add_splits(
+        &self,
+        alloc: Global,
+        ring: &Ring,
+        nonzero: &PolyList,
+        parametric: &PolyList,
+        coefficients: &PolyList,
+        other: &PolyList,
+        all: &mut Vec<Branch>,
+    ) -> Result<(), AllocError>
+        requires valid { IsRing ring.now }
+        requires ring { ring.now ≡ self.now.ring }
+        requires nonzero { AllByRecursion (IsCondition ring.now) nonzero.now }
+        requires parametric { AllByRecursion (IsCondition ring.now) parametric.now }
+        requires coefficients { AllByRecursion (IsCondition ring.now) coefficients.now }
+        requires other { AllByRecursion (IsPoly ring.now) other.now }
+        ensures { OnOk result (all.new.items ≡ all.old.items ++ split_children ring.now self.now parametric.now nonzero.now other.now coefficients.now) }
+    {
+        let mut before = copied(alloc, nonzero)?;
+        for i in 0..coefficients.len() {
+            let h = coefficients.get(i);
+            let vanish = with_condition(alloc, ring, parametric, h)?;
+            let stand = copied(alloc, &before)?;
+            let polys = copied(alloc, other)?;
+            all.push(self.child(BranchKind::Split, vanish, stand, polys))?;
+            add(alloc, ring, &mut before, h)?;
+        }
+        Ok(())
+    }
+}

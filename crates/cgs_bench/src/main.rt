@@ -1,13 +1,17 @@
 //! A program that does one operation on polynomials again and again and prints nothing, for a script to time.
 //!
 //! Its words are the operation, the number of terms of each polynomial and how often it is done: `add 1000 50`. Of
-//! `divide` the last is the number of units of work. The status is 1 where the words say something else or memory is short.
+//! `divide` the last is the number of units of work. `tree 2 16 1` takes all branches of a tree with two children a branch
+//! and 16 levels below the root, once. The status is 1 where the words say something else or memory is short.
 #![tactic(auto)]
+
+mod tree;
 
 ghost use Rattle.std.specs.Prelude.{◌≡◌, ◌≤◌, ◌<◌, ℕ, [], length, slice_index_or, IfSome, IfOk};
 ghost use Rattle.cgs_poly.specs.Polynomial.{IsRing, IsPoly, places};
 ghost use Rattle.cgs_algebra.specs.Groebner.{AreMonic};
 
+use crate::tree::take_trees;
 use cgs_divide::{Stop, divide};
 use cgs_field::Modulus;
 use cgs_order::Kind;
@@ -27,17 +31,63 @@ fn main(rt: HostRuntime) -> ExitCode {
 /// Does what the words ask for.
 fn timed(rt: &(impl Env + AllocGlobal), alloc: Global) -> Option<()> {
     let arguments: Vec<String> = env::args(rt).ok()?.collect(alloc).ok()?;
-    let operation = arguments.get(1)?.as_str();
-    let terms = number(arguments.get(2)?)?;
+    let word = arguments.get(1)?.as_str();
+    let size = number(arguments.get(2)?)?;
     let times = number(arguments.get(3)?)?;
+    if word == "tree" {
+        return take_trees(alloc, size, times, number(arguments.get(4)?)?);
+    }
+    with_polynomials(alloc, named(word)?, size, times)
+}
+
+/// Does an operation on polynomials of so many terms again and again.
+fn with_polynomials(alloc: Global, operation: Operation, terms: u32, times: u32) -> Option<()>
+    requires terms { terms ≤ 1000000 }
+{
     let ring = plane()?;
     let f = spread(alloc, &ring, 2, 0, terms).ok()?;
-    if operation == "divide" {
-        return divide_for(alloc, &ring, &f, times);
+    match operation {
+        Operation::Divide => divide_for(alloc, &ring, &f, times),
+        Operation::Add | Operation::Product => {
+            let g = spread(alloc, &ring, 3, 0, terms).ok()?;
+            operate_for(alloc, &ring, operation, &f, &g, times)
+        }
     }
-    let g = spread(alloc, &ring, 3, 0, terms).ok()?;
+}
+
+/// What is done to polynomials.
+#[derive(Clone, Copy, Debug, PartialEq, Eq)]
+enum Operation {
+    Add,
+    Product,
+    Divide,
+}
+
+/// The operation on polynomials that a word names.
+fn named(word: &str) -> Option<Operation> {
+    match word {
+        "add" => Some(Operation::Add),
+        "product" => Some(Operation::Product),
+        "divide" => Some(Operation::Divide),
+        _ => None,
+    }
+}
+
+/// Does an operation on f and g again and again.
+fn operate_for(
+    alloc: Global,
+    ring: &Ring,
+    operation: Operation,
+    f: &Poly,
+    g: &Poly,
+    times: u32,
+) -> Option<()>
+    requires ring { IsRing ring.now }
+    requires first { IsPoly ring.now f.now }
+    requires second { IsPoly ring.now g.now }
+{
     for _ in 0..times {
-        let result = operated(alloc, &ring, operation, &f, &g).ok()?;
+        let result = operated(alloc, ring, operation, f, g).ok()?;
         drop(result);
     }
     Some(())
@@ -128,7 +178,7 @@ fn spread(alloc: Global, ring: &Ring, step: u32, from: u32, to: u32) -> Result<P
 fn operated(
     alloc: Global,
     ring: &Ring,
-    operation: &str,
+    operation: Operation,
     f: &Poly,
     g: &Poly,
 ) -> Result<Poly, PolyFault>
@@ -137,7 +187,7 @@ fn operated(
     requires second { IsPoly ring.now g.now }
 {
     match operation {
-        "product" => Poly::product(alloc, ring, f, g),
-        _ => Ok(Poly::add(alloc, ring, f, g)?),
+        Operation::Product => Poly::product(alloc, ring, f, g),
+        Operation::Add | Operation::Divide => Ok(Poly::add(alloc, ring, f, g)?),
     }
 }

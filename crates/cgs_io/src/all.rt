@@ -36,8 +36,8 @@ pub enum ReadFault {
 /// Reads to the end of input, or to one byte past the limit.
 pub fn read_all<S: Source>(alloc: Global, source: &mut S, limit: u64) -> Result<Reading, ReadFault>
     requires { limit ≤ 67108864 }
-    ensures bytes { IsReading limit (S.left source.old) (S.left source.new) result }
-    ensures cause { ReadCause (S.faults source.old) (S.faults source.new) result }
+    ensures bytes { IsReading limit (S.seen source.old).bytes (S.seen source.new).bytes result }
+    ensures cause { ReadCause (S.seen source.old).faults (S.seen source.new).faults result }
 {
     let most = limit as usize + 1;
     let mut bytes = Vec::new(alloc);
@@ -61,9 +61,9 @@ pub fn read_all<S: Source>(alloc: Global, source: &mut S, limit: u64) -> Result<
 
 /// Writes the whole text. After `Failed` the sink has a prefix of it.
 pub fn write_all<K: Sink>(sink: &mut K, text: &[u8]) -> Result<(), Failed>
-    ensures ok { OnOk result (Appends (K.written sink.old) (K.written sink.new) text.now) }
-    ensures err { OnErr result (AppendsPrefix (K.written sink.old) (K.written sink.new) text.now) }
-    ensures cause { HasCause (K.faults sink.old) (K.faults sink.new) result }
+    ensures ok { OnOk result (Appends (K.seen sink.old).bytes (K.seen sink.new).bytes text.now) }
+    ensures err { OnErr result (AppendsPrefix (K.seen sink.old).bytes (K.seen sink.new).bytes text.now) }
+    ensures cause { HasCause (K.seen sink.old).faults (K.seen sink.new).faults result }
 {
     let mut at = 0;
     while at < text.len() {

@@ -24,8 +24,8 @@ impl MemorySource {
     /// A source of these bytes, of which no call was made yet.
     pub fn new(bytes: Vec<u8>, most: u32, fails: Vec<u64>) -> MemorySource
         requires { 1 ≤ most }
-        ensures left { ⟦<MemorySource as Source>⟧.left result ≡ Some bytes.items }
-        ensures faults { ⟦<MemorySource as Source>⟧.faults result ≡ 0 }
+        ensures left { (⟦<MemorySource as Source>⟧.seen result).bytes ≡ Some bytes.items }
+        ensures faults { (⟦<MemorySource as Source>⟧.seen result).faults ≡ 0 }
         ensures most { result.most ≡ most }
         ensures calls { (result.calls.fails ≡ fails) × (result.calls.made ≡ 0) }
     {
@@ -38,9 +38,7 @@ impl MemorySource {
 }
 
 impl Source for MemorySource {
-    ghost left = { λ source. Some source.rest };
-
-    ghost faults = { λ source. source.calls.faults };
+    ghost seen = { λ source. record { bytes = Some source.rest; faults = source.calls.faults } };
 
     fn read(&mut self, into: &mut [u8]) -> Result<usize, Failed>
         ensures count { IfOk result (λ n. n ≤ length into.new) }
@@ -67,8 +65,8 @@ pub struct CalmSource {
 impl CalmSource {
     /// A source of these bytes.
     pub fn new(bytes: Vec<u8>) -> CalmSource
-        ensures left { ⟦<CalmSource as Source>⟧.left result ≡ Some bytes.items }
-        ensures faults { ⟦<CalmSource as Source>⟧.faults result ≡ 0 }
+        ensures left { (⟦<CalmSource as Source>⟧.seen result).bytes ≡ Some bytes.items }
+        ensures faults { (⟦<CalmSource as Source>⟧.seen result).faults ≡ 0 }
     {
         CalmSource {
             rest: Rest::new(bytes),
@@ -77,9 +75,7 @@ impl CalmSource {
 }
 
 impl Source for CalmSource {
-    ghost left = { λ source. Some source.rest };
-
-    ghost faults = { λ _. 0 };
+    ghost seen = { λ source. record { bytes = Some source.rest; faults = 0 } };
 
     fn read(&mut self, into: &mut [u8]) -> Result<usize, Failed> {
         Ok(self.rest.give(into, usize::MAX))
@@ -107,8 +103,8 @@ impl MemorySink {
         fails: Vec<u64>,
     ) -> Result<MemorySink, AllocError>
         requires { 1 ≤ most }
-        ensures written { IfOk result (λ sink. ⟦<MemorySink as Sink>⟧.written sink ≡ Some []) }
-        ensures faults { IfOk result (λ sink. ⟦<MemorySink as Sink>⟧.faults sink ≡ 0) }
+        ensures written { IfOk result (λ sink. (⟦<MemorySink as Sink>⟧.seen sink).bytes ≡ Some []) }
+        ensures faults { IfOk result (λ sink. (⟦<MemorySink as Sink>⟧.seen sink).faults ≡ 0) }
         ensures limits { IfOk result (λ sink. (sink.room ≡ room) × (sink.most ≡ most)) }
         ensures calls { IfOk result (λ sink. (sink.calls.fails ≡ fails) × (sink.calls.made ≡ 0)) }
     {
@@ -123,16 +119,14 @@ impl MemorySink {
 
     /// All bytes that were written.
     pub fn written(&self) -> &[u8]
-        ensures { ⟦<MemorySink as Sink>⟧.written self.now ≡ Some result.now }
+        ensures { (⟦<MemorySink as Sink>⟧.seen self.now).bytes ≡ Some result.now }
     {
         &self.bytes
     }
 }
 
 impl Sink for MemorySink {
-    ghost written = { λ sink. Some sink.bytes.items };
-
-    ghost faults = { λ sink. sink.calls.faults };
+    ghost seen = { λ sink. record { bytes = Some sink.bytes.items; faults = sink.calls.faults } };
 
     /// An empty piece is no failure where the room is used up.
     fn write(&mut self, piece: &[u8]) -> Result<usize, Failed>

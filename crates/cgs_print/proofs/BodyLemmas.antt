@@ -65,7 +65,7 @@ first_apart w (v ∷ names) others h =
     both true b e = absurd (cc)
 
 -- lists of new names of which the first has none of the second
-new_beside : (front before names : List (List ℕ)) → AreNew before names → AllByRecursion (λ v. list_any (bytes_eq v) names ≡ false) front → AreNew (front ++ before) names
+pub new_beside : (front before names : List (List ℕ)) → AreNew before names → AllByRecursion (λ v. list_any (bytes_eq v) names ≡ false) front → AreNew (front ++ before) names
 new_beside front before [] new apart = tt
 new_beside front before (w ∷ names) new apart =
     let split = first_apart w front names apart in

@@ -1,4 +1,5 @@
 pub mod PrintLemmas
+pub mod ConditionLemmas
 pub mod PrintedPowerLemmas
 pub mod PrintedTermLemmas
 pub mod PrintedPolynomialLemmas
@@ -15,3 +16,4 @@ pub mod NameLemmas
 pub mod ReadableLemmas
 pub mod SpelledLemmas
 pub mod RoundTripLemmas
+pub mod ValidLemmas

@@ -93,3 +93,18 @@ leaves_no_item f items i rest h l = leaves_equal rest l (ap (λ xs. flat_map f x
 pub lines_left : (old first second third last : List ℕ) → Leaves old old (first ++ second ++ third ++ last) (first ++ (second ++ (third ++ last)))
 lines_left old first second third last =
     leaves_equal _ (leaves_all old _) (append_assoc (first ++ second) third last ∙ append_assoc first second (third ++ last))
+
+-- Two parts of a text, one after the other.
+
+pub front_first : (old new first second : List ℕ) → AppendsFront old new first → AppendsFront old new (first ++ second)
+front_first old new first second f = front_of_piece first second (leaves_all old (first ++ second)) f
+
+pub front_second : (old mid new first second : List ℕ) → mid ≡ old ++ first → AppendsFront mid new second → AppendsFront old new (first ++ second)
+front_second old mid new first second e f = front_of_rest second (leaves_rest first second (leaves_all old (first ++ second)) e) f
+
+pub both_parts : (old mid new first second : List ℕ) → mid ≡ old ++ first → new ≡ mid ++ second → new ≡ old ++ (first ++ second)
+both_parts old mid new first second e d = d ∙ ap (λ (xs : List ℕ). xs ++ second) e ∙ append_assoc old first second
+
+pub last_part : {E : Type 0} (r : Result (Unit {0}) E) (old mid new first second : List ℕ) → mid ≡ old ++ first → Prints r mid new second → Prints r old new (first ++ second)
+last_part (Ok done) old mid new first second e p = both_parts old mid new first second e p
+last_part (Err failed) old mid new first second e p = front_second old mid new first second e p

@@ -2,6 +2,7 @@
 use Rattle.std.specs.Prelude.{ℕ, ◌≡◌, List, Ok}
 use Rattle.cgs_problem.specs.declared.problem.Problem.{Problem}
 use Rattle.cgs_problem.specs.Reading.{problem_spelled}
+use Rattle.cgs_problem.specs.Problems.{IsProblem}
 use Rattle.cgs_print.specs.Printing.{problem_text}
 
 -- the text printed for a problem spells it, if some bytes spell it
@@ -11,3 +12,7 @@ IsReadBack problem = (bytes : List ℕ) → problem_spelled bytes ≡ Ok problem
 -- so it is of all problems
 abbrev pub ReadsBack : Type 0
 ReadsBack = (problem : Problem) → IsReadBack problem
+
+-- a text spells valid problems alone
+abbrev pub SpellsValid : Type 0
+SpellsValid = (bytes : List ℕ) (problem : Problem) → problem_spelled bytes ≡ Ok problem → IsProblem problem

@@ -5,15 +5,19 @@
 //! first: `polynomial_text` and `problem_text` (specs/Printing), `ReadsBack` (specs/RoundTrip).
 #![tactic(auto)]
 
+mod basis;
 mod fault;
 mod laws;
 mod line;
+mod list;
 mod polynomial;
 mod problem;
 mod push;
 
+pub use basis::{basis_text, refusal_text};
 pub use fault::fault_text;
-pub use laws::printed_problems_read_back;
+pub use laws::{printed_problems_read_back, spelled_problems_are_valid};
+pub use list::{list_text, path_text};
 pub use polynomial::poly_text;
 pub use problem::problem_text;
 

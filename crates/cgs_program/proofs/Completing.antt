@@ -2,6 +2,7 @@
 use Rattle.std.proofs.Common.{◌≡◌, ℕ, ◌≤◌, List, ◌++◌, length, Option, Some, None, Result, Ok, refl, sym, subst, ap, ◌∙◌, inl, inr, ◌⊎◌, arith}
 use Rattle.std.proofs.lemmas.List.{append-nil, length-append}
 use Rattle.std.specs.Io.KnownBytes.{Consumes, IsAtEnd, Appends}
+use Rattle.cgs_io.specs.Seen.{Seen}
 use Rattle.cgs_problem.specs.declared.problem.Problem.{Problem}
 use Rattle.cgs_problem.specs.declared.fault.TextFault.{TextFault}
 use Rattle.cgs_problem.specs.Reading.{problem_spelled}
@@ -11,7 +12,7 @@ use Rattle.cgs_program.specs.declared.status.Status.{Status}
 use Rattle.cgs_program.specs.declared.status.Status.TheVariants as status
 use Rattle.cgs_words.specs.Words.{plan_of}
 use Rattle.cgs_program.specs.Due.{Got, nothing_read, whole, too_long, limit, own_problem, IsAnswer, IsReply, IsDueTo, IsDueFor}
-use Rattle.cgs_program.specs.Run.{Seen, Took, Writes, Ends, Accepts, Completes}
+use Rattle.cgs_program.specs.Run.{Took, Writes, Ends, Accepts, Completes}
 
 all_taken : (told now : Option (List ℕ)) (bytes read : List ℕ) → told ≡ Some bytes → Consumes told now read → IsAtEnd now → read ≡ bytes
 all_taken None now bytes read e p q = absurd cc
@@ -44,8 +45,8 @@ wrote p words a b c d bytes problem end acc w =
     inr (w.text, settled p a b bytes problem w.text end w.settles.got acc.reads acc.told acc.fits acc.spelled w.settles.taken due, w.written)
 
 pub completes : (words : List (List ℕ)) (a b c d : Seen) (end : Status) → Ends (plan_of words) a b c d end → Completes words a b c d end
-completes words a b c d status.Source h p bytes problem acc = absurd (acc.source_sound h.rose)
-completes words a b c d status.Sink h p bytes problem acc = absurd (acc.sink_sound h.rose)
+completes words a b c d status.Source h p bytes problem acc = absurd (acc.source_sound h.rose.1)
+completes words a b c d status.Sink h p bytes problem acc = absurd (acc.sink_sound h.rose.1)
 completes words a b c d status.Memory h p bytes problem acc = inl refl
 completes words a b c d status.Done h p bytes problem acc = wrote p words a b c d bytes problem status.Done acc h
 completes words a b c d status.Words h p bytes problem acc = wrote p words a b c d bytes problem status.Words acc h

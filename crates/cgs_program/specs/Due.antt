@@ -1,11 +1,19 @@
 -- The text that is due, and the status with which it is written.
-use Rattle.std.specs.Prelude.{◌≡◌, ℕ, List, codes, Option, Some, None, Result, Ok, Err}
+use Rattle.std.specs.Prelude.{◌≡◌, ℕ, Bool, true, false, List, ◌++◌, codes, Option, Some, None, Result, Ok, Err}
+use Rattle.std.specs.List.{list_any}
+use Rattle.cgs_poly.specs.Polynomial.{Term}
+use Rattle.cgs_divide.specs.AutoreductionRun.{ListRun, done, out_of_budget, out_of_degree}
+use Rattle.cgs_basis.specs.BasisRun.{basis_run}
+use Rattle.cgs_entry.specs.declared.entry.Cause.TheVariants.{Budget, Degree}
+use Rattle.cgs_entry.specs.declared.entry.Entry.{Entry}
+use Rattle.cgs_entry.specs.Entries.{is_refused}
+use Rattle.cgs_split.specs.declared.kind.Limits.{Limits}
+use Rattle.cgs_split.specs.Laws.{entry_list}
 use Rattle.cgs_problem.specs.declared.problem.Problem.{Problem}
 use Rattle.cgs_problem.specs.declared.fault.TextFault.{TextFault}
 use Rattle.cgs_problem.specs.Reading.{problem_spelled}
-use Rattle.cgs_print.specs.Printing.{problem_text, fault_text}
-use Rattle.cgs_words.specs.declared.plan.Command.{Command}
-use Rattle.cgs_words.specs.declared.plan.Command.TheVariants.{Check}
+use Rattle.cgs_print.specs.Printing.{problem_text, basis_text, refusal_text, list_text, fault_text}
+use Rattle.cgs_words.specs.declared.plan.Command.TheVariants.{Check, Basis, Solve}
 use Rattle.cgs_words.specs.declared.plan.Plan.{Plan}
 use Rattle.cgs_words.specs.declared.plan.WordFault.{WordFault}
 use Rattle.cgs_words.specs.declared.plan.WordFault.TheVariants as word
@@ -39,19 +47,62 @@ word_fault_text word.Option = codes "fault words option\n"
 word_fault_text word.Repeat = codes "fault words repeat\n"
 word_fault_text word.Value = codes "fault words value\n"
 
--- The answer of a command for a problem. A further command is a further case.
-abbrev pub IsAnswerOf : Command → Problem → List ℕ → Status → Type 0
-IsAnswerOf Check problem text end = (text ≡ problem_text problem) × (end ≡ status.Done)
+-- a text, and the status with which it is written
+pub record Answer : Type 0 where
+  pub text : List ℕ
+  pub end : Status
+
+abbrev pub answer : List ℕ → Status → Answer
+answer text end = record { text = text; end = end }
+
+-- the status of a text of which a part is a refusal, or none is
+abbrev pub status_of : Bool → Status
+status_of true = status.Partial
+status_of false = status.Done
+
+-- the polynomials of whose ideal `basis` prints the basis
+abbrev pub generators_of : Problem → List (List Term)
+generators_of problem = problem.polys ++ problem.zero
+
+-- what `basis` answers where the run ends so
+abbrev pub basis_answer : Problem → ListRun → Answer
+basis_answer problem (done basis left) = answer (basis_text problem basis) status.Done
+basis_answer problem (out_of_budget left) = answer (refusal_text Budget) status.Partial
+basis_answer problem (out_of_degree left) = answer (refusal_text Degree) status.Partial
+
+-- what `solve` answers where these are the entries
+abbrev pub list_answer : Problem → List Entry → Answer
+list_answer problem entries = answer (list_text problem entries) (status_of (list_any is_refused entries))
+
+abbrev pub limits_of : Plan → Limits
+limits_of plan = record { budget = plan.budget; depth = plan.depth }
+
+-- the entries of a problem's tree within the limits of a plan
+abbrev pub entries_within : Limits → Problem → List Entry
+entries_within limits problem = entry_list problem.ring limits problem.zero problem.nonzero problem.polys
+
+-- The answer for a problem. A further command is a further case.
+abbrev pub answer_of : Plan → Problem → Answer
+answer_of plan problem =
+    elim plan.command [
+      | Check ↦ answer (problem_text problem) status.Done
+      | Basis ↦ basis_answer problem (basis_run problem.ring (generators_of problem) plan.budget)
+      | Solve ↦ list_answer problem (entries_within (limits_of plan) problem)
+    ]
+
+-- the text and the status of an answer
+abbrev pub IsThe : Answer → List ℕ → Status → Type 0
+IsThe wanted text end = (text ≡ wanted.text) × (end ≡ wanted.end)
 
 abbrev pub IsAnswer : Plan → Problem → List ℕ → Status → Type 0
-IsAnswer plan problem text end = IsAnswerOf plan.command problem text end
+IsAnswer plan problem text end = IsThe (answer_of plan problem) text end
 
 -- the answer for what bytes spell
 abbrev pub IsReply : Plan → Result Problem TextFault → List ℕ → Status → Type 0
 IsReply plan (Ok problem) text end = IsAnswer plan problem text end
 IsReply plan (Err fault) text end = (text ≡ fault_text fault) × (end ≡ status.Text)
 
--- the problem that a command makes by itself, without reading; `check` reads
+-- the problem that a command makes by itself, without reading; each of these reads
 abbrev pub own_problem : Plan → Option Problem
 own_problem plan = None
 

@@ -1,7 +1,8 @@
 -- How a run ends.
-use Rattle.std.specs.Prelude.{◌≡◌, ◌≤◌, ◌⊎◌, ℕ, ◌+◌, List, length, Option, Some, None, Result, Ok, Err, IsOk}
+use Rattle.std.specs.Prelude.{◌≡◌, ◌≤◌, ◌⊎◌, ℕ, ◌+◌, List, length, Some, None, Result, Ok, Err, IsOk}
 use Rattle.std.specs.Io.KnownBytes.{Consumes, IsAtEnd, Keeps, Appends}
 use Rattle.cgs_io.specs.Causes.{Rose}
+use Rattle.cgs_io.specs.Seen.{Seen, IsCalm}
 use Rattle.cgs_io.specs.Streams.{AppendsPrefix}
 use Rattle.cgs_problem.specs.declared.problem.Problem.{Problem}
 use Rattle.cgs_problem.specs.Reading.{problem_spelled}
@@ -15,23 +16,19 @@ use Rattle.cgs_program.specs.declared.reply.Halt.TheVariants as halt
 use Rattle.cgs_words.specs.Words.{plan_of}
 use Rattle.cgs_program.specs.Due.{Got, nothing_read, whole, too_long, limit, own_problem, IsDueFor, IsAnswer}
 
--- what a source or a sink tells at a moment: its bytes, if it tells them, and its count of faults
-pub record Seen : Type 0 where
-  pub bytes : Option (List ℕ)
-  pub faults : ℕ
-
-abbrev pub IsCalm : Seen → Seen → Type 0
-IsCalm before now = now.faults ≡ before.faults
-
 -- what was taken from the source
 abbrev pub Took : Got → Seen → Seen → Type 0
 Took nothing_read before now = Keeps before.bytes now.bytes
 Took (whole read) before now = (length read ≤ limit) × Consumes before.bytes now.bytes read × IsAtEnd now.bytes
 Took too_long before now = (read : List ℕ) × (length read ≡ limit + 1) × Consumes before.bytes now.bytes read
 
--- What was taken is a front of what was left.
+-- What was taken is a front of what was left, at most one byte more than the limit.
 abbrev pub TookSome : Seen → Seen → Type 0
-TookSome before now = (read : List ℕ) × Consumes before.bytes now.bytes read
+TookSome before now = (read : List ℕ) × (length read ≤ limit + 1) × Consumes before.bytes now.bytes read
+
+-- The count of faults did not fall, and rose.
+abbrev pub Fails : Seen → Seen → Type 0
+Fails before now = (before.faults ≤ now.faults) × Rose before.faults now.faults
 
 -- There is a plan, and it reads.
 abbrev pub Reads : Result Plan WordFault → Type 0
@@ -58,13 +55,13 @@ pub record WritesPart (plan : Result Plan WordFault) (source source_now sink sin
   pub end : Status
   pub settles : Settles plan source source_now text end
   pub written : AppendsPrefix sink.bytes sink_now.bytes text
-  pub rose : Rose sink.faults sink_now.faults
+  pub rose : Fails sink sink_now
 
 -- The source failed, and nothing was written.
 pub record SourceFails (plan : Result Plan WordFault) (source source_now sink sink_now : Seen) : Type 0 where
   pub reads : Reads plan
   pub taken : TookSome source source_now
-  pub rose : Rose source.faults source_now.faults
+  pub rose : Fails source source_now
   pub written : Keeps sink.bytes sink_now.bytes
   pub calm : IsCalm sink sink_now
 
@@ -89,14 +86,14 @@ IsRun words source source_now sink sink_now end = Ends (plan_of words) source so
 -- What making a reply leaves of the source.
 abbrev pub RepliesTo : Plan → Seen → Seen → Result Reply Halt → Type 0
 RepliesTo plan before now (Ok reply) = Settles (Ok plan) before now reply.text reply.status
-RepliesTo plan before now (Err halt.Source) = Reads (Ok plan) × TookSome before now × Rose before.faults now.faults
+RepliesTo plan before now (Err halt.Source) = Reads (Ok plan) × TookSome before now × Fails before now
 RepliesTo plan before now (Err halt.Memory) = TookSome before now × IsCalm before now
 
 -- What writing a text leaves of the sink.
 abbrev pub Finishes : List ℕ → Status → Seen → Seen → Status → Type 0
 Finishes text end before now result =
     ((result ≡ end) × Appends before.bytes now.bytes text × IsCalm before now)
-    ⊎ ((result ≡ status.Sink) × AppendsPrefix before.bytes now.bytes text × Rose before.faults now.faults)
+    ⊎ ((result ≡ status.Sink) × AppendsPrefix before.bytes now.bytes text × Fails before now)
 
 -- A reply was made as it should be, unless memory was short.
 abbrev pub Makes : Result Reply Halt → (List ℕ → Status → Type 0) → Type 0

@@ -5,8 +5,10 @@
 //! `cgs_print`). Read first: `IsRun` and `Completes` (specs/Run), `IsAnswer` (specs/Due).
 #![tactic(auto)]
 
+mod basis;
 mod reply;
 mod run;
+mod solve;
 mod status;
 #[cfg(test)]
 mod tests;

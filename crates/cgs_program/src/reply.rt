@@ -2,17 +2,19 @@
 
 ghost use Rattle.std.specs.Prelude.{◌≡◌, ◌≤◌, length};
 ghost use Rattle.cgs_problem.specs.Problems.{IsProblem};
-ghost use Rattle.cgs_print.specs.Printing.{fault_text};
-ghost use Rattle.cgs_words.specs.declared.plan.Command.TheVariants.{Check};
-ghost use Rattle.cgs_program.specs.declared.status.Status.TheVariants.{Text};
-ghost use Rattle.cgs_program.specs.Due.{IsAnswer, IsAnswerOf, IsDueTo, whole, too_long, limit};
+ghost use Rattle.cgs_print.specs.Printing.{problem_text, fault_text};
+ghost use Rattle.cgs_program.specs.declared.status.Status.TheVariants.{Done, Text};
+ghost use Rattle.cgs_program.specs.Due.{answer as wanted, IsThe, IsAnswer, IsDueTo, limits_of, whole, too_long, limit};
 ghost use Rattle.cgs_program.specs.Run.{RepliesTo, Makes};
 
+use crate::basis::basis_reply;
+use crate::solve::list_reply;
 use crate::status::Status;
 use cgs_io::{ReadFault, Reading, Source, read_all};
 use cgs_list::ItemList;
 use cgs_print::{fault_text, problem_text};
 use cgs_problem::{Problem, Text, TextFault};
+use cgs_split::Limits;
 use cgs_text::{TextRefused, read_problem};
 use cgs_words::{Command, Plan};
 use std::alloc::{AllocError, Global};
@@ -52,9 +54,7 @@ pub(crate) fn make_reply<S: Source>(
     plan: Plan,
     source: &mut S,
 ) -> Result<Reply, Halt>
-    ensures { RepliesTo plan
-        (record { bytes = S.left source.old; faults = S.faults source.old })
-        (record { bytes = S.left source.new; faults = S.faults source.new }) result }
+    ensures { RepliesTo plan (S.seen source.old) (S.seen source.new) result }
 {
     match read_all(alloc, source, LIMIT) {
         Ok(Reading::Whole(bytes)) => reply_to(alloc, plan, &bytes),
@@ -107,13 +107,15 @@ fn answer(alloc: Global, plan: Plan, problem: &Problem) -> Result<Reply, Halt>
 {
     match plan.command {
         Command::Check => checked(alloc, problem),
+        Command::Basis => basis_reply(alloc, plan.budget, problem),
+        Command::Solve => list_reply(alloc, &limits_of(plan), problem),
     }
 }
 
 /// The canonical text of a problem.
 fn checked(alloc: Global, problem: &Problem) -> Result<Reply, Halt>
     requires { IsProblem problem.now }
-    ensures { Makes result (IsAnswerOf Check problem.now) }
+    ensures { Makes result (IsThe (wanted (problem_text problem.now) Done)) }
 {
     let mut text = ItemList::new(alloc);
     problem_text(problem, &mut text)?;
@@ -121,4 +123,14 @@ fn checked(alloc: Global, problem: &Problem) -> Result<Reply, Halt>
         text,
         status: Status::Done,
     })
+}
+
+/// The limits of a plan.
+fn limits_of(plan: Plan) -> Limits
+    ensures { result ≡ limits_of plan }
+{
+    Limits {
+        budget: plan.budget,
+        depth: plan.depth,
+    }
 }

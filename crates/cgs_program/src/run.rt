@@ -3,6 +3,7 @@
 ghost use Rattle.std.specs.Prelude.{◌≡◌};
 ghost use Rattle.cgs_program.specs.Due.{word_fault_text};
 ghost use Rattle.cgs_program.specs.Run.{IsRun, Completes, Finishes};
+ghost use Rattle.cgs_program.specs.Promises.{KeepsBasis, KeepsSystem};
 
 use crate::reply::{Halt, make_reply};
 use crate::status::Status;
@@ -18,16 +19,10 @@ pub fn run_alone<S: Source, K: Sink>(
     source: &mut S,
     sink: &mut K,
 ) -> Status
-    ensures run { IsRun words.now
-        (record { bytes = S.left source.old; faults = S.faults source.old })
-        (record { bytes = S.left source.new; faults = S.faults source.new })
-        (record { bytes = K.written sink.old; faults = K.faults sink.old })
-        (record { bytes = K.written sink.new; faults = K.faults sink.new }) result }
-    ensures complete { Completes words.now
-        (record { bytes = S.left source.old; faults = S.faults source.old })
-        (record { bytes = S.left source.new; faults = S.faults source.new })
-        (record { bytes = K.written sink.old; faults = K.faults sink.old })
-        (record { bytes = K.written sink.new; faults = K.faults sink.new }) result }
+    ensures run { IsRun words.now (S.seen source.old) (S.seen source.new) (K.seen sink.old) (K.seen sink.new) result }
+    ensures complete { Completes words.now (S.seen source.old) (S.seen source.new) (K.seen sink.old) (K.seen sink.new) result }
+    ensures basis { KeepsBasis words.now (S.seen source.old) (S.seen source.new) (K.seen sink.old) (K.seen sink.new) result }
+    ensures system { KeepsSystem words.now (S.seen source.old) (S.seen source.new) (K.seen sink.old) (K.seen sink.new) result }
 {
     run_words(alloc, words, source, sink)
 }
@@ -39,11 +34,7 @@ fn run_words<S: Source, K: Sink>(
     source: &mut S,
     sink: &mut K,
 ) -> Status
-    ensures { IsRun words.now
-        (record { bytes = S.left source.old; faults = S.faults source.old })
-        (record { bytes = S.left source.new; faults = S.faults source.new })
-        (record { bytes = K.written sink.old; faults = K.faults sink.old })
-        (record { bytes = K.written sink.new; faults = K.faults sink.new }) result }
+    ensures { IsRun words.now (S.seen source.old) (S.seen source.new) (K.seen sink.old) (K.seen sink.new) result }
 {
     let plan = match read_words(words) {
         Ok(plan) => plan,
@@ -58,9 +49,7 @@ fn run_words<S: Source, K: Sink>(
 
 /// Writes the text. The status is `end`, unless the sink failed.
 fn finish<K: Sink>(sink: &mut K, text: &[u8], end: Status) -> Status
-    ensures { Finishes text.now end
-        (record { bytes = K.written sink.old; faults = K.faults sink.old })
-        (record { bytes = K.written sink.new; faults = K.faults sink.new }) result }
+    ensures { Finishes text.now end (K.seen sink.old) (K.seen sink.new) result }
 {
     match write_all(sink, text) {
         Ok(()) => end,

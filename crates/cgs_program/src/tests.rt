@@ -12,11 +12,38 @@ poly 3*x+2*a*x*y+9*x+x*y
 end
 ";
 
+/// A line whose slope is the parameter.
+const LINE: &[u8] = b"field 7
+parameters a
+variables x
+order lex
+poly a*x-1
+end
+";
+
+/// Two polynomials whose basis takes some steps.
+const PAIR: &[u8] = b"field 7
+parameters a
+variables x y
+order lex
+poly x^2+a
+poly x*y+1
+end
+";
+
 const NO_WORDS: &[&[u8]] = &[];
 
 const CHECK: &[&[u8]] = &[b"check"];
 
+const BASIS: &[&[u8]] = &[b"basis"];
+
+const BASIS_OF_ONE_UNIT: &[&[u8]] = &[b"basis", b"--budget", b"1"];
+
 const SOLVE: &[&[u8]] = &[b"solve"];
+
+const SOLVE_WITHIN_ELEVEN: &[&[u8]] = &[b"solve", b"--budget", b"11"];
+
+const SOLV: &[&[u8]] = &[b"solv"];
 
 const CHECK_X: &[&[u8]] = &[b"check", b"x"];
 
@@ -50,29 +77,44 @@ fn run(
 }
 
 #[test]
-fn checks(rt: HostRuntime) -> Result<(), Fail> {
+fn answers(rt: HostRuntime) -> Result<(), Fail> {
     let alloc = rt.alloc();
     let rows = [
         (
+            CHECK,
             SUM,
             b"field 7\nparameters a\nvariables x y\norder lex\npoly 2*a*x*y+x*y+5*x\nend\n".as_slice(),
             Status::Done,
         ),
+        (CHECK, b"", b"fault line 1 end\n", Status::Text),
         (
-            b"field 2\nparameters\nvariables x\norder lex\npoly 5*x+7*x+3\nend\n",
-            b"field 2\nparameters\nvariables x\norder lex\npoly 1\nend\n",
+            BASIS,
+            PAIR,
+            b"basis a*y^2+1\nbasis x+6*a*y\nmembers 2\n",
             Status::Done,
         ),
         (
-            b"field 7\nparameters a\nvariables x\norder lex\npoly x-1\nend\n",
-            b"field 7\nparameters a\nvariables x\norder lex\npoly x+6\nend\n",
+            BASIS_OF_ONE_UNIT,
+            PAIR,
+            b"refused budget\n",
+            Status::Partial,
+        ),
+        (
+            SOLVE,
+            LINE,
+            b"segment 0\nnonzero a\nbasis a*x+6\nsegment 1\nzero a\nbasis 1\nsegments 2 refused 0\n",
             Status::Done,
         ),
-        (b"", b"fault line 1 end\n", Status::Text),
+        (
+            SOLVE_WITHIN_ELEVEN,
+            LINE,
+            b"segment 0\nnonzero a\nbasis a*x+6\nrefused 1 budget\nzero a\nsegments 1 refused 1\n",
+            Status::Partial,
+        ),
     ];
-    for (input, written, wanted) in rows {
+    for (words, input, written, wanted) in rows {
         let input = Vec::from_slice(alloc, input)?;
-        let (status, sink) = run(alloc, CHECK, input, NEVER, NEVER)?;
+        let (status, sink) = run(alloc, words, input, NEVER, NEVER)?;
         assert_eq!(rt; sink.written(), written);
         assert_eq!(rt; status, wanted);
     }
@@ -90,7 +132,7 @@ fn refuses_words_and_tells_what_failed(rt: HostRuntime) -> Result<(), Fail> {
             b"fault words none\n".as_slice(),
             Status::Words,
         ),
-        (SOLVE, NEVER, NEVER, b"fault words command\n", Status::Words),
+        (SOLV, NEVER, NEVER, b"fault words command\n", Status::Words),
         (
             CHECK_X,
             NEVER,
@@ -98,11 +140,11 @@ fn refuses_words_and_tells_what_failed(rt: HostRuntime) -> Result<(), Fail> {
             b"fault words option\n",
             Status::Words,
         ),
-        (CHECK, SECOND, NEVER, b"", Status::Source),
-        (CHECK, NEVER, SECOND, b"field 7\npa", Status::Sink),
+        (SOLVE, SECOND, NEVER, b"", Status::Source),
+        (SOLVE, NEVER, SECOND, b"segment 0\n", Status::Sink),
     ];
     for (words, read_fails, write_fails, written, wanted) in rows {
-        let input = Vec::from_slice(alloc, SUM)?;
+        let input = Vec::from_slice(alloc, LINE)?;
         let (status, sink) = run(alloc, words, input, read_fails, write_fails)?;
         assert_eq!(rt; sink.written(), written);
         assert_eq!(rt; status, wanted);

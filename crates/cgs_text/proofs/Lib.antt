@@ -10,3 +10,4 @@ pub mod DraftLemmas
 pub mod NameLemmas
 pub mod ReadingLemmas
 pub mod ReadingExamples
+pub mod ConditionLemmas

@@ -4,11 +4,12 @@ use Rattle.std.proofs.lemmas.List.{length-take, length-drop, take-append-drop}
 use Rattle.std.proofs.Math.Nat.{mul-le-mul_right}
 use Rattle.std.specs.List.{AllByRecursion}
 use Rattle.cgs_poly.specs.declared.ring.Ring.{Ring}
-use Rattle.cgs_poly.specs.Polynomial.{Term, places, canonical, IsOfRing, HasLowDegrees}
+use Rattle.cgs_poly.specs.Polynomial.{Term, places, canonical, IsOfRing}
 use Rattle.cgs_poly.specs.Flat.{terms_of}
 use Rattle.cgs_poly.proofs.FlatLemmas.{terms_take, terms_drop}
 use Rattle.cgs_poly.proofs.SumLemmas.{alike_append}
 use Rattle.cgs_poly.proofs.CanonicalLemmas.{canonical_same, canonical_alike, is_canonical, canonical_of_ring, append_of_ring}
+use Rattle.cgs_poly.proofs.ProductLemmas.{low_take, low_drop}
 use Rattle.cgs_text.specs.Terms.{CanBeSummed}
 
 all_take : (P : ℕ → Type 0) (n : ℕ) (xs : List ℕ) → AllByRecursion P xs → AllByRecursion P (take n xs)
@@ -20,16 +21,6 @@ all_drop : (P : ℕ → Type 0) (n : ℕ) (xs : List ℕ) → AllByRecursion P x
 all_drop P zero xs h = h
 all_drop P (suc n) [] h = tt
 all_drop P (suc n) (x ∷ xs) h = all_drop P n xs h.1
-
-low_take : (n : ℕ) (f : List Term) → HasLowDegrees f → HasLowDegrees (take n f)
-low_take zero f h = tt
-low_take (suc n) [] h = tt
-low_take (suc n) (x ∷ f) h = (h.0, low_take n f h.1)
-
-low_drop : (n : ℕ) (f : List Term) → HasLowDegrees f → HasLowDegrees (drop n f)
-low_drop zero f h = h
-low_drop (suc n) [] h = tt
-low_drop (suc n) (x ∷ f) h = low_drop n f h.1
 
 -- the exponents of the first terms are within those of all
 pub half_fits : (ring : Ring) (cs es : List ℕ) (n : ℕ) → CanBeSummed ring cs es → n ≤ length cs → n * places ring ≤ length es

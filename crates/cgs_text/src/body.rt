@@ -3,9 +3,10 @@
 ghost use Rattle.std.specs.Prelude.{◌≡◌, ◌≤◌, ℕ, List, IfOk, OnOk};
 ghost use Rattle.std.specs.List.{AllByRecursion};
 ghost use Rattle.cgs_poly.specs.Polynomial.{IsPoly, places};
+ghost use Rattle.cgs_poly.specs.Parameters.{IsCondition};
 ghost use Rattle.cgs_problem.specs.Drafts as said;
 ghost use Rattle.cgs_problem.specs.Lexemes.{lexemes_of};
-ghost use Rattle.cgs_problem.specs.Problems.{IsProblem, IsCondition, IsThesis};
+ghost use Rattle.cgs_problem.specs.Problems.{IsProblem, IsThesis};
 ghost use Rattle.cgs_text.specs.Answers.{Gives};
 ghost use Rattle.cgs_text.specs.Drafts.{meaning, problem_in, reader_of, IsDraft, Takes};
 ghost use Rattle.cgs_text.specs.Scopes.{HasTermsFor};

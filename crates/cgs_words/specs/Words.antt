@@ -8,7 +8,7 @@ use Rattle.cgs_words.specs.declared.options.Name.{Name}
 use Rattle.cgs_words.specs.declared.options.Name.TheVariants.{Budget, Depth}
 use Rattle.cgs_words.specs.declared.options.Options.{Options}
 use Rattle.cgs_words.specs.declared.plan.Command.{Command}
-use Rattle.cgs_words.specs.declared.plan.Command.TheVariants.{Check}
+use Rattle.cgs_words.specs.declared.plan.Command.TheVariants.{Check, Basis, Solve}
 use Rattle.cgs_words.specs.declared.plan.Plan.{Plan}
 use Rattle.cgs_words.specs.declared.plan.WordFault.{WordFault}
 use Rattle.cgs_words.specs.declared.plan.WordFault.TheVariants as fault
@@ -62,7 +62,11 @@ unfoldable mutual
   value_of options name (word ∷ words) = and_then (with_value options name word) (λ next. options_of next words)
 
 abbrev pub command_of : List ℕ → Result Command WordFault
-command_of word = if bytes_eq word (codes "check") then Ok Check else Err fault.Command
+command_of word =
+    if bytes_eq word (codes "check") then Ok Check
+    else (if bytes_eq word (codes "basis") then Ok Basis
+    else (if bytes_eq word (codes "solve") then Ok Solve
+    else Err fault.Command))
 
 -- a command with these options, and with the usual values of those that were not given
 abbrev pub plan_with : Command → Options → Plan

@@ -5,6 +5,10 @@
 pub enum Command {
     /// Its canonical text is printed.
     Check,
+    /// The reduced Gröbner basis of its polynomials and of those that have to vanish is printed.
+    Basis,
+    /// Its comprehensive Gröbner system is printed.
+    Solve,
 }
 
 /// A command and the limits that it is run within.

@@ -16,9 +16,9 @@ fn words_of(alloc: Global, line: &str) -> Result<WordList, AllocError> {
     Ok(words)
 }
 
-fn plan(budget: u64, depth: u32) -> Plan {
+fn plan(command: Command, budget: u64, depth: u32) -> Plan {
     Plan {
-        command: Command::Check,
+        command,
         workers: 1,
         budget,
         depth,
@@ -32,12 +32,18 @@ fn plans(rt: HostRuntime) -> Result<(), Fail> {
         ("", Err(WordFault::NoWord)),
         ("solv", Err(WordFault::Command)),
         ("--help", Err(WordFault::Command)),
-        ("check", Ok(plan(10000000, 64))),
-        ("check --depth 255 --budget 7", Ok(plan(7, 255))),
+        ("check", Ok(plan(Command::Check, 10000000, 64))),
         (
-            "check --budget 1000000000000 --depth 1",
-            Ok(plan(1000000000000, 1)),
+            "check --depth 255 --budget 7",
+            Ok(plan(Command::Check, 7, 255)),
         ),
+        (
+            "basis --budget 1000000000000 --depth 1",
+            Ok(plan(Command::Basis, 1000000000000, 1)),
+        ),
+        ("solve --depth 2", Ok(plan(Command::Solve, 10000000, 2))),
+        ("solve --budget 1000000000001", Err(WordFault::Value)),
+        ("solves", Err(WordFault::Command)),
         ("check --budget 0", Err(WordFault::Value)),
         ("check --budget 1000000000001", Err(WordFault::Value)),
         (

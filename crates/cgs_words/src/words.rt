@@ -28,6 +28,10 @@ fn read_command(word: &[u8]) -> Result<Command, WordFault>
 {
     if word == b"check".as_slice() {
         Ok(Command::Check)
+    } else if word == b"basis".as_slice() {
+        Ok(Command::Basis)
+    } else if word == b"solve".as_slice() {
+        Ok(Command::Solve)
     } else {
         Err(WordFault::Command)
     }

@@ -4,11 +4,11 @@ use Rattle.cgs_io.proofs.all.read_all.Given as goal
 
 abbrev pub invariant-loop-buffer : goal.invariant-loop-buffer
 invariant-loop-buffer g l =
-    let left = g.S.Source.left in
+    let seen = g.S.Source.seen in
     record {
       within : length l.bytes.items ≤ l.most;
-      bytes : Consumes (left l.fn.source) (left l.source) l.bytes.items;
-      faults : g.S.Source.faults l.source ≡ g.S.Source.faults l.fn.source;
+      bytes : Consumes (seen l.fn.source).bytes (seen l.source).bytes l.bytes.items;
+      faults : (seen l.source).faults ≡ (seen l.fn.source).faults;
     }
 
 abbrev pub decreases-loop-buffer : goal.decreases-loop-buffer

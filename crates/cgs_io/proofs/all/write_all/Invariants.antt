@@ -4,11 +4,11 @@ use Rattle.cgs_io.proofs.all.write_all.Given as goal
 
 abbrev pub invariant-loop-at : goal.invariant-loop-at
 invariant-loop-at g l =
-    let written = g.K.Sink.written in
+    let seen = g.K.Sink.seen in
     record {
       within : l.at ≤ length l.text;
-      bytes : Appends (written l.fn.sink) (written l.sink) (take l.at l.text);
-      faults : g.K.Sink.faults l.sink ≡ g.K.Sink.faults l.fn.sink;
+      bytes : Appends (seen l.fn.sink).bytes (seen l.sink).bytes (take l.at l.text);
+      faults : (seen l.sink).faults ≡ (seen l.fn.sink).faults;
     }
 
 abbrev pub decreases-loop-at : goal.decreases-loop-at

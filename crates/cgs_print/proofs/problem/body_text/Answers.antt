@@ -2,8 +2,8 @@ use Rattle.std.proofs.Common.{◌≡◌, ◌++◌, ℕ, List, [], ◌∷◌, cod
 use Rattle.std.specs.List.{flat_map, AllByRecursion}
 use Rattle.cgs_poly.specs.declared.ring.Ring.{Ring}
 use Rattle.cgs_poly.specs.Polynomial.{Term, IsPoly}
+use Rattle.cgs_poly.specs.Parameters.{IsCondition}
 use Rattle.cgs_problem.specs.declared.problem.Problem.{Problem}
-use Rattle.cgs_problem.specs.Problems.{IsCondition}
 use Rattle.cgs_print.specs.Printing.{polynomial_lines, thesis_line, point_line, body_text, AppendsFront, Prints}
 use Rattle.cgs_print.proofs.PrintLemmas.{Leaves, leaves_all, leaves_equal, leaves_rest, front_of_piece, at_exit, ends}
 use Rattle.cgs_print.proofs.problem.body_text.Goals as goal

@@ -1,0 +1,59 @@
+-- What the bytes written by `basis` and by `solve` are, in the words of the field: neither a run nor a unit nor a tree stands here.
+use Rattle.std.specs.Prelude.{◌≡◌, ◌⊎◌, ℕ, List, Ok}
+use Rattle.std.specs.List.{list_any}
+use Rattle.std.specs.Io.KnownBytes.{Appends}
+use Rattle.cgs_io.specs.Seen.{Seen}
+use Rattle.cgs_poly.specs.Polynomial.{Term}
+use Rattle.cgs_algebra.specs.Groebner.{IsReduced, IsAscending}
+use Rattle.cgs_entry.specs.declared.entry.Entry.{Entry}
+use Rattle.cgs_entry.specs.Entries.{IsComprehensive, is_refused}
+use Rattle.cgs_problem.specs.declared.problem.Problem.{Problem}
+use Rattle.cgs_problem.specs.Reading.{problem_spelled}
+use Rattle.cgs_print.specs.Printing.{basis_text, list_text}
+use Rattle.cgs_words.specs.declared.plan.Command.{Command}
+use Rattle.cgs_words.specs.declared.plan.Command.TheVariants.{Basis, Solve}
+use Rattle.cgs_words.specs.declared.plan.Plan.{Plan}
+use Rattle.cgs_words.specs.Words.{plan_of}
+use Rattle.cgs_program.specs.declared.status.Status.{Status}
+use Rattle.cgs_program.specs.declared.status.Status.TheVariants as status
+use Rattle.cgs_program.specs.Due.{whole, generators_of, status_of}
+use Rattle.cgs_program.specs.Run.{Took}
+
+-- the words ask for a command
+pub record Asks (command : Command) (words : List (List ℕ)) : Type 0 where
+  pub plan : Plan
+  pub planned : plan_of words ≡ Ok plan
+  pub asked : plan.command ≡ command
+
+-- the bytes that the source had left, at most as many as the limit, spell the problem
+pub record HasRead (source source_now : Seen) (problem : Problem) : Type 0 where
+  pub bytes : List ℕ
+  pub taken : Took (whole bytes) source source_now
+  pub spelled : problem_spelled bytes ≡ Ok problem
+
+-- The text of the reduced Gröbner basis of the ideal of the polynomials and of those that have to vanish was written.
+pub record WritesBasis (source source_now sink sink_now : Seen) : Type 0 where
+  pub problem : Problem
+  pub read : HasRead source source_now problem
+  pub basis : List (List Term)
+  pub reduced : IsReduced problem.ring basis (generators_of problem)
+  pub ascending : IsAscending problem.ring basis
+  pub written : Appends sink.bytes sink_now.bytes (basis_text problem basis)
+
+-- The text of a comprehensive list of entries was written, and the status tells whether one of them is refused.
+pub record WritesSystem (source source_now sink sink_now : Seen) (end : Status) : Type 0 where
+  pub problem : Problem
+  pub read : HasRead source source_now problem
+  pub entries : List Entry
+  pub comprehensive : IsComprehensive problem.ring problem.zero problem.nonzero problem.polys entries
+  pub status : end ≡ status_of (list_any is_refused entries)
+  pub written : Appends sink.bytes sink_now.bytes (list_text problem entries)
+
+-- what `basis` promises with status 0
+abbrev pub KeepsBasis : List (List ℕ) → Seen → Seen → Seen → Seen → Status → Type 0
+KeepsBasis words source source_now sink sink_now end = Asks Basis words → end ≡ status.Done → WritesBasis source source_now sink sink_now
+
+-- what `solve` promises with the statuses 0 and 3
+abbrev pub KeepsSystem : List (List ℕ) → Seen → Seen → Seen → Seen → Status → Type 0
+KeepsSystem words source source_now sink sink_now end =
+    Asks Solve words → (end ≡ status.Done) ⊎ (end ≡ status.Partial) → WritesSystem source source_now sink sink_now end

@@ -1,7 +1,8 @@
 -- Buchberger's criterion (Cox, Little, O'Shea, chapter 2, section 6, theorem 6, with lcm representations as in section 9; Becker, Weispfenning,
 -- theorem 5.64). A combination whose multiples have leads up to m is changed into one with leads below m, or into one multiple with the lead m
 -- and such a rest. In the first case m falls. In the second m is the lead of the sum, unless the coefficient of that multiple is 0.
-use Rattle.std.proofs.Common.{ℕ, ◌≡◌, ◌+◌, ◌-◌, ◌*◌, ◌%◌, ◌<◌, ◌⊎◌, inl, inr, Bool, true, false, List, [], ◌∷◌, ◌++◌, length, get_or, refl, sym, ap, ◌∙◌, subst, arith, eqb}
+use Rattle.std.proofs.Common.{ℕ, ◌≡◌, ◌+◌, ◌-◌, ◌*◌, ◌%◌, ◌<◌, ◌⊎◌, inl, inr, Bool, true, false, List, [], ◌∷◌, ◌++◌, length, get_or, refl, sym, ap, ◌∙◌, subst}
+use Rattle.std.proofs.Common.{arith, eqb}
 use Rattle.std.proofs.Math.Nat.{zero-mod, zero-mul, zero-add, add-zero, mul-one}
 use Rattle.std.proofs.lemmas.Bool.{eqb-true, eqb-false}
 use Rattle.std.specs.declared.cmp.Ordering.{Ordering}
@@ -11,15 +12,17 @@ use Rattle.cgs_exps.proofs.MonomialLemmas.{product_length, divides_product}
 use Rattle.cgs_order.specs.TermOrder.{compared}
 use Rattle.cgs_order.proofs.OrderLemmas.{compared_equal, compared_trans, compared_back, compared_induction}
 use Rattle.cgs_poly.specs.declared.ring.Ring.{Ring}
-use Rattle.cgs_poly.specs.Polynomial.{Term, places, order_of, total, only, IsCanonical}
-use Rattle.cgs_poly.specs.Product.{multiple, lead}
+use Rattle.cgs_poly.specs.Polynomial.{Term, places, order_of, total, indicator, IsCanonical}
+use Rattle.cgs_poly.specs.Product.{multiple, leading_monomial}
 use Rattle.cgs_poly.proofs.SumLemmas.{Alike, alike_same, alike_trans, alike_append, alike_from_coefficients, total_append}
 use Rattle.cgs_poly.proofs.CanonicalLemmas.{above_zero, all_below_zero, lead_not_zero, same_canonical}
 use Rattle.cgs_poly.proofs.MultipleLemmas.{multiple_lead}
 use Rattle.cgs_algebra.specs.Combination.{Summand, summand, combined, IsCombination, IsMember}
-use Rattle.cgs_algebra.specs.Groebner.{AreMonic, lead_at, SomeLeadDivides}
+use Rattle.cgs_algebra.specs.Groebner.{AreMonic, leading_monomial_at, SomeLeadDivides}
 use Rattle.cgs_algebra.specs.SPolynomial.{LeadsBelow, difference}
-use Rattle.cgs_algebra.proofs.RepresentationLemmas.{IsRepresentedBelow, represented_zero, represented_alike, represented_append, represented_scaled, represented_one, total_difference, lead_at_length, PairsRepresented, places_represented, all_below_combined, represented_zero_at}
+use Rattle.cgs_algebra.proofs.RepresentationLemmas.{IsRepresentedBelow, represented_zero, represented_alike, represented_append, represented_scaled}
+use Rattle.cgs_algebra.proofs.RepresentationLemmas.{represented_one, total_difference, lead_at_length, PairsRepresented, places_represented, all_below_combined}
+use Rattle.cgs_algebra.proofs.RepresentationLemmas.{represented_zero_at}
 use Rattle.cgs_poly.proofs.ProductLemmas.{total_multiple}
 use Rattle.cgs_field.proofs.ModularLemmas.{mod_add, mod_mul, mod_gather}
 
@@ -28,7 +31,8 @@ use Rattle.cgs_field.proofs.ModularLemmas.{mod_add, mod_mul, mod_gather}
 alike_past : (p : ℕ) (f g h : List Term) → Alike p (f ++ (g ++ h)) (g ++ (f ++ h))
 alike_past p f g h = record {
   under = λ w.
-      let e : total w (f ++ (g ++ h)) ≡ total w (g ++ (f ++ h)) = omega (arith, total_append w f (g ++ h), total_append w g h, total_append w g (f ++ h), total_append w f h) in
+      let e : total w (f ++ (g ++ h)) ≡ total w (g ++ (f ++ h)) =
+      omega (arith, total_append w f (g ++ h), total_append w g h, total_append w g (f ++ h), total_append w f h) in
       ap (λ n. n % p) e;
 }
 
@@ -45,7 +49,8 @@ difference_scaled : (w : List ℕ → ℕ) (ring : Ring) (c : ℕ) (t : List ℕ
     → total w (scaled_difference ring c t f s g) ≡ c * total w (difference ring t f s g)
 difference_scaled w ring c t f s g =
     total_scaled_difference w ring c t f s g
-    ∙ (spread_out (ring.modulus - 1) c (total (λ m. w (product t m)) f) (total (λ m. w (product s m)) g) ∙ ap (λ n. c * n) (sym (total_difference w ring t f s g)))
+    ∙ (spread_out (ring.modulus - 1) c (total (λ m. w (product t m)) f) (total (λ m. w (product s m)) g)
+    ∙ ap (λ n. c * n) (sym (total_difference w ring t f s g)))
   where
     spread_out : (q c x y : ℕ) → c * x + (q * c) * y ≡ c * (x + q * y)
     spread_out q c x y = omega arith
@@ -83,10 +88,10 @@ module _ (ring : Ring) (G : List (List Term)) (pos : 0 < ring.modulus) (ok : Are
   multiple_of k = multiple k.coefficient k.monomial (at k.place)
 
   abbrev lead_of : Summand → List ℕ
-  lead_of k = product k.monomial (lead_at G k.place)
+  lead_of k = product k.monomial (leading_monomial_at G k.place)
 
   lead_of_length : (k : Summand) → length k.monomial ≡ places ring → k.place < length G → length (lead_of k) ≡ places ring
-  lead_of_length k l h = product_length k.monomial (lead_at G k.place) (places ring) l (lead_at_length ring G pos ok k.place h)
+  lead_of_length k l h = product_length k.monomial (leading_monomial_at G k.place) (places ring) l (lead_at_length ring G pos ok k.place h)
 
   -- one multiple with the lead m, and a rest that is represented below m
   record HasTop (m : List ℕ) (f : List Term) : Type 0 where
@@ -104,7 +109,8 @@ module _ (ring : Ring) (G : List (List Term)) (pos : 0 < ring.modulus) (ok : Are
   LeadsUpTo m (k ∷ ks) = ((compared (order_of ring) (lead_of k) m ≡ Less) ⊎ (lead_of k ≡ m)) × LeadsUpTo m ks
 
   -- two multiples with the lead m make one, and a rest
-  two_tops : PairsRepresented ring G pos ok → (m : List ℕ) (k : Summand) (f : List Term) → length k.monomial ≡ places ring → k.place < length G → lead_of k ≡ m → HasTop m f
+  two_tops : PairsRepresented ring G pos ok → (m : List ℕ) (k : Summand) (f : List Term)
+      → length k.monomial ≡ places ring → k.place < length G → lead_of k ≡ m → HasTop m f
       → HasTop m (multiple_of k ++ f)
   two_tops pairs m k f l h e t =
       let D : List Term = scaled_difference ring k.coefficient k.monomial (at k.place) t.top.monomial (at t.top.place) in
@@ -116,7 +122,9 @@ module _ (ring : Ring) (G : List (List Term)) (pos : 0 < ring.modulus) (ok : Are
         long = t.long;
         leads = t.leads;
         rest = D ++ t.rest;
-        low = represented_append (represented_scaled k.coefficient D (λ w. ap (λ n. n % ring.modulus) (difference_scaled w ring k.coefficient k.monomial (at k.place) t.top.monomial (at t.top.place))) d) t.low;
+        low = represented_append
+            (represented_scaled k.coefficient D (λ w.
+            ap (λ n. n % ring.modulus) (difference_scaled w ring k.coefficient k.monomial (at k.place) t.top.monomial (at t.top.place))) d) t.low;
         sum = alike_trans (alike_append (alike_same ring.modulus (multiple_of k)) t.sum)
             (exchanged ring k.coefficient t.top.coefficient k.monomial (at k.place) t.top.monomial (at t.top.place) t.rest pos);
       }
@@ -138,7 +146,8 @@ module _ (ring : Ring) (G : List (List Term)) (pos : 0 < ring.modulus) (ok : Are
         low = represented_append (represented_one ring G m k h.0 h.1 b) t.low;
         sum = alike_trans (alike_append (alike_same ring.modulus (multiple_of k)) t.sum) (alike_past ring.modulus (multiple_of k) (multiple_of t.top) t.rest);
       })
-      by_lead (inr e) (inl low) = inr (record { top = k; place = h.1; long = h.0; leads = e; rest = combined G ks; low = low; sum = alike_same ring.modulus (combined G (k ∷ ks)) })
+      by_lead (inr e) (inl low) =
+          inr (record { top = k; place = h.1; long = h.0; leads = e; rest = combined G ks; low = low; sum = alike_same ring.modulus (combined G (k ∷ ks)) })
       by_lead (inr e) (inr t) = inr (two_tops pairs m k (combined G ks) h.0 h.1 e t)
 
   below_higher : (m n : List ℕ) (ks : List Summand) → LeadsUpTo m ks → compared (order_of ring) m n ≡ Less → LeadsBelow ring G n ks
@@ -160,10 +169,18 @@ module _ (ring : Ring) (G : List (List Term)) (pos : 0 < ring.modulus) (ok : Are
     holds : LeadsUpTo bound ks
     below : (m : List ℕ) → LeadsBelow ring G m ks → compared (order_of ring) bound m ≡ Less
 
-  higher_of : (k : Summand) (ks : List Summand) → length (lead_of k) ≡ places ring → (h : Highest ks) → (o : Ordering) → compared (order_of ring) (lead_of k) h.bound ≡ o
+  higher_of : (k : Summand) (ks : List Summand) → length (lead_of k) ≡ places ring → (h : Highest ks)
+      → (o : Ordering) → compared (order_of ring) (lead_of k) h.bound ≡ o
       → Highest (k ∷ ks)
   higher_of k ks l h Less e = record { bound = h.bound; long = h.long; holds = (inl e, h.holds); below = λ m b. h.below m b.1 }
-  higher_of k ks l h Equal e = record { bound = h.bound; long = h.long; holds = (inr (compared_equal (order_of ring) (lead_of k) h.bound (l ∙ sym h.long) e), h.holds); below = λ m b. h.below m b.1 }
+  higher_of k ks l h Equal e =
+      record {
+        bound = h.bound;
+        long = h.long;
+        holds =
+            (inr (compared_equal (order_of ring) (lead_of k) h.bound (l ∙ sym h.long) e), h.holds);
+        below = λ m b. h.below m b.1;
+      }
   higher_of k ks l h Greater e = record {
     bound = lead_of k;
     long = l;
@@ -179,7 +196,7 @@ module _ (ring : Ring) (G : List (List Term)) (pos : 0 < ring.modulus) (ok : Are
 
   -- a polynomial with a coefficient at m that is not 0, and equal to a combination with leads up to m, has the lead m
   lead_is : (m : List ℕ) (ks : List Summand) → length m ≡ places ring → IsCombination ring G ks → LeadsUpTo m ks
-      → (f : List Term) → IsCanonical ring f → Alike ring.modulus f (combined G ks) → (total (only m) f % ring.modulus ≡ 0 → ⊥) → lead f ≡ m
+      → (f : List Term) → IsCanonical ring f → Alike ring.modulus f (combined G ks) → (total (indicator m) f % ring.modulus ≡ 0 → ⊥) → leading_monomial f ≡ m
   lead_is m ks lm h u [] k a some = absurd (some (zero-mod ring.modulus))
   lead_is m ks lm h u (x ∷ f) k a some = by_order (compared (order_of ring) x.exponents m) refl
     where
@@ -189,51 +206,63 @@ module _ (ring : Ring) (G : List (List Term)) (pos : 0 < ring.modulus) (ok : Are
       by_order Greater e =
           let n : List ℕ = x.exponents in
           let b = below_higher m n ks u (compared_back (order_of ring) n m e) in
-          let z : total (only n) (combined G ks) ≡ 0 = all_below_zero ring n (combined G ks) (all_below_combined ring G pos ok n ks h b) in
-          absurd (lead_not_zero ring x f k (a.under (only n) ∙ (ap (λ i. i % ring.modulus) z ∙ zero-mod ring.modulus)))
+          let z : total (indicator n) (combined G ks) ≡ 0 = all_below_zero ring n (combined G ks) (all_below_combined ring G pos ok n ks h b) in
+          absurd (lead_not_zero ring x f k (a.under (indicator n) ∙ (ap (λ i. i % ring.modulus) z ∙ zero-mod ring.modulus)))
 
   -- the coefficient at m is that of the one multiple
-  top_coefficient : (m : List ℕ) (f : List Term) → (t : HasTop m f) → total (only m) f % ring.modulus ≡ t.top.coefficient % ring.modulus
+  top_coefficient : (m : List ℕ) (f : List Term) → (t : HasTop m f) → total (indicator m) f % ring.modulus ≡ t.top.coefficient % ring.modulus
   top_coefficient m f t =
       let c : ℕ = t.top.coefficient in
-      let one : total (only m) (multiple_of t.top) ≡ c =
-      subst (λ n. total (only n) (multiple_of t.top) ≡ c) t.leads
-      (multiple_lead ring c t.top.monomial (at t.top.place) t.long (ok.canonical t.top.place t.place) ∙ (ap (λ n. c * n) (ok.monic t.top.place t.place) ∙ mul-one c)) in
-      let s : total (only m) (multiple_of t.top ++ t.rest) ≡ c + total (only m) t.rest = total_append (only m) (multiple_of t.top) t.rest ∙ ap (λ n. n + total (only m) t.rest) one in
-      let z : total (only m) t.rest % ring.modulus ≡ 0 % ring.modulus = represented_zero_at ring G pos ok m t.rest t.low ∙ sym (zero-mod ring.modulus) in
-      t.sum.under (only m) ∙ (ap (λ n. n % ring.modulus) s ∙ (mod_add ring.modulus c c (total (only m) t.rest) 0 refl z ∙ ap (λ n. n % ring.modulus) (add-zero c)))
+      let one : total (indicator m) (multiple_of t.top) ≡ c =
+      subst (λ n. total (indicator n) (multiple_of t.top) ≡ c) t.leads
+      (multiple_lead ring c t.top.monomial (at t.top.place) t.long (ok.canonical t.top.place t.place)
+      ∙ (ap (λ n. c * n) (ok.monic t.top.place t.place) ∙ mul-one c)) in
+      let s : total (indicator m) (multiple_of t.top ++ t.rest) ≡ c + total (indicator m) t.rest =
+      total_append (indicator m) (multiple_of t.top) t.rest ∙ ap (λ n. n + total (indicator m) t.rest) one in
+      let z : total (indicator m) t.rest % ring.modulus ≡ 0 % ring.modulus = represented_zero_at ring G pos ok m t.rest t.low ∙ sym (zero-mod ring.modulus) in
+      t.sum.under (indicator m)
+      ∙ (ap (λ n. n % ring.modulus) s ∙ (mod_add ring.modulus c c (total (indicator m) t.rest) 0 refl z ∙ ap (λ n. n % ring.modulus) (add-zero c)))
 
   -- each polynomial other than 0 that is a combination with leads up to m
   abbrev Claim : List ℕ → Type 0
-  Claim m = (f : List Term) → IsCanonical ring f → (f ≡ [] → ⊥) → (ks : List Summand) → IsCombination ring G ks → LeadsUpTo m ks → Alike ring.modulus f (combined G ks) → SomeLeadDivides G (lead f)
+  Claim m = (f : List Term) → IsCanonical ring f → (f ≡ [] → ⊥) → (ks : List Summand) → IsCombination ring G ks
+      → LeadsUpTo m ks → Alike ring.modulus f (combined G ks) → SomeLeadDivides G (leading_monomial f)
 
   -- by the highest lead of a combination
   from_highest : (f : List Term) → IsCanonical ring f → (f ≡ [] → ⊥) → (ks : List Summand) → IsCombination ring G ks → Alike ring.modulus f (combined G ks)
-      → ((n : List ℕ) → length n ≡ places ring → ((m : List ℕ) → LeadsBelow ring G m ks → compared (order_of ring) n m ≡ Less) → Claim n) → SomeLeadDivides G (lead f)
+      → ((n : List ℕ) → length n ≡ places ring → ((m : List ℕ) → LeadsBelow ring G m ks → compared (order_of ring) n m ≡ Less) → Claim n)
+      → SomeLeadDivides G (leading_monomial f)
   from_highest f k some [] h a claim = absurd (some (same_canonical ring f [] k tt a))
   from_highest f k some (l ∷ ks) h a claim = let top = highest l ks h in claim top.bound top.long top.below f k some (l ∷ ks) h top.holds a
 
-  claim_step : PairsRepresented ring G pos ok → (m : List ℕ) → length m ≡ places ring → ((n : List ℕ) → length n ≡ places ring → compared (order_of ring) n m ≡ Less → Claim n)
+  claim_step : PairsRepresented ring G pos ok → (m : List ℕ) → length m ≡ places ring
+      → ((n : List ℕ) → length n ≡ places ring → compared (order_of ring) n m ≡ Less → Claim n)
       → Claim m
   claim_step pairs m lm smaller f k some ks h u a = by_top (top_or_low pairs m ks h u)
     where
-      down : IsRepresentedBelow ring G m f → SomeLeadDivides G (lead f)
+      down : IsRepresentedBelow ring G m f → SomeLeadDivides G (leading_monomial f)
       down low = from_highest f k some low.summands low.combination low.sum (λ n l b. smaller n l (b m low.below))
 
-      by_coefficient : (t : HasTop m (combined G ks)) → (b : Bool) → eqb (t.top.coefficient % ring.modulus) 0 ≡ b → SomeLeadDivides G (lead f)
+      by_coefficient : (t : HasTop m (combined G ks)) → (b : Bool) → eqb (t.top.coefficient % ring.modulus) 0 ≡ b → SomeLeadDivides G (leading_monomial f)
       by_coefficient t true e =
           let z = eqb-true (t.top.coefficient % ring.modulus) 0 e in
-          down (represented_alike (alike_trans a (alike_trans t.sum (without_zero ring.modulus t.top.coefficient t.top.monomial (at t.top.place) t.rest z))) t.low)
+          down (represented_alike (alike_trans a (alike_trans t.sum (without_zero ring.modulus t.top.coefficient t.top.monomial (at t.top.place) t.rest z)))
+          t.low)
       by_coefficient t false e =
           let nz = eqb-false (t.top.coefficient % ring.modulus) 0 e in
-          let l : lead f ≡ m = lead_is m ks lm h u f k a (λ z. nz (sym (a.under (only m) ∙ top_coefficient m (combined G ks) t) ∙ z)) in
-          (t.top.place, t.place, rw l (subst (λ n. divides (lead_at G t.top.place) n ≡ true) t.leads (divides_product t.top.monomial (lead_at G t.top.place))))
+          let l : leading_monomial f ≡ m = lead_is m ks lm h u f k a (λ z. nz (sym (a.under (indicator m) ∙ top_coefficient m (combined G ks) t) ∙ z)) in (
+            t.top.place,
+            t.place,
+            rw l (subst (λ n. divides (leading_monomial_at G t.top.place) n ≡ true) t.leads
+                (divides_product t.top.monomial (leading_monomial_at G t.top.place))),
+          )
 
-      by_top : IsRepresentedBelow ring G m (combined G ks) ⊎ HasTop m (combined G ks) → SomeLeadDivides G (lead f)
+      by_top : IsRepresentedBelow ring G m (combined G ks) ⊎ HasTop m (combined G ks) → SomeLeadDivides G (leading_monomial f)
       by_top (inl low) = down (represented_alike a low)
       by_top (inr t) = by_coefficient t (eqb (t.top.coefficient % ring.modulus) 0) refl
 
-  pub buchberger : PairsRepresented ring G pos ok → (f : List Term) → IsCanonical ring f → IsMember ring G f → (f ≡ [] → ⊥) → SomeLeadDivides G (lead f)
+  pub buchberger : PairsRepresented ring G pos ok → (f : List Term) → IsCanonical ring f → IsMember ring G f → (f ≡ [] → ⊥)
+      → SomeLeadDivides G (leading_monomial f)
   buchberger pairs f k member some =
       from_highest f k some member.summands member.combination (alike_from_coefficients pos member.sum)
       (λ n l b. compared_induction (order_of ring) Claim (claim_step pairs) n l)

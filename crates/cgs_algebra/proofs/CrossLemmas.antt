@@ -14,9 +14,9 @@ use Rattle.cgs_poly.proofs.CanonicalLemmas.{AllBelow, canonical_of_ring}
 use Rattle.cgs_poly.proofs.ProductLemmas.{multiple_of_ring, total_products}
 use Rattle.cgs_poly.proofs.MultipleLemmas.{total_swap}
 use Rattle.cgs_poly.proofs.ProductOrderLemmas.{take_product, drop_product, product_append}
+use Rattle.cgs_poly.proofs.SpecialisedLemmas.{at_point, variables_length, parameters_length}
 use Rattle.cgs_algebra.proofs.WeightLemmas.{Each, total_same, each_append, each_multiple, each_products, products_plus, multiple_plus, products_multiple}
-use Rattle.cgs_algebra.proofs.VariablesOrderLemmas.{variables_length, parameters_length}
-use Rattle.cgs_algebra.proofs.PointLemmas.{at_point, power_weight, products_at_point, IsFree}
+use Rattle.cgs_algebra.proofs.PointLemmas.{power_weight, products_at_point, IsFree}
 use Rattle.cgs_algebra.proofs.PartLemmas.{rest_of, part_total, HasVariables, part_each, VariablesBelow, rest_of_head, below_by_variables}
 use Rattle.cgs_algebra.proofs.PartLemmas.{variables_below_ring, variables_below_product, strip_each, total_strip}
 use Rattle.cgs_algebra.specs.Combination.{IsMember}

@@ -12,12 +12,13 @@ use Rattle.cgs_order.specs.TermOrder.{compared}
 use Rattle.cgs_order.proofs.OrderLemmas.{compared_induction}
 use Rattle.cgs_poly.specs.declared.ring.Ring.{Ring}
 use Rattle.cgs_poly.specs.Polynomial.{Term, term, places, order_of, total, StartsBelow, IsCanonical, kept, inserted, canonical}
-use Rattle.cgs_poly.specs.Product.{multiple, lead, lead_coefficient}
+use Rattle.cgs_poly.specs.Product.{multiple, leading_monomial, leading_coefficient}
 use Rattle.cgs_poly.specs.Parameters.{has_no_variables, HasNoVariables, value_at}
 use Rattle.cgs_poly.proofs.ParameterLemmas.{free_tested}
 use Rattle.cgs_poly.proofs.SumLemmas.{Alike}
 use Rattle.cgs_poly.proofs.CanonicalLemmas.{canonical_of_ring, is_canonical, canonical_alike, canonical_starts}
 use Rattle.cgs_poly.proofs.ProductOrderLemmas.{take_product}
+use Rattle.cgs_poly.proofs.SpecialisedLemmas.{at_point, variables_length}
 use Rattle.cgs_algebra.specs.Combination.{IsMember}
 use Rattle.cgs_algebra.specs.Groebner.{AreMonic, IsGroebnerBasis}
 use Rattle.cgs_algebra.specs.Specialisation.{IsParametric, AllVanish}
@@ -25,8 +26,7 @@ use Rattle.cgs_algebra.specs.Stability.{parametric_members}
 use Rattle.cgs_algebra.proofs.MemberLemmas.{same_member, sum_member, multiple_member}
 use Rattle.cgs_algebra.proofs.FieldLemmas.{IsOpposite, opposite_of_one}
 use Rattle.cgs_algebra.proofs.ReductionLemmas.{cofactor, cofactor_length, cofactor_product, remainder, remainder_of_ring, remainder_below, remainder_alike}
-use Rattle.cgs_algebra.proofs.VariablesOrderLemmas.{variables_length}
-use Rattle.cgs_algebra.proofs.PointLemmas.{at_point, power_weight}
+use Rattle.cgs_algebra.proofs.PointLemmas.{power_weight}
 use Rattle.cgs_algebra.proofs.VanishingLemmas.{Vanishes, multiple_vanishes, vanishing_added, free_vanishes, free_by_lead}
 
 -- a place of a list has its member in one of the two parts
@@ -71,11 +71,11 @@ pub canonical_free : (ring : Ring) (f : List Term) → HasNoVariables ring f →
 canonical_free ring [] h = tt
 canonical_free ring (y ∷ f) h = inserted_free ring y.coefficient y.exponents (canonical ring f) h.0 (canonical_free ring f h.1)
 
-pub append_free : (ring : Ring) (f g : List Term) → HasNoVariables ring f → HasNoVariables ring g → HasNoVariables ring (f ++ g)
+append_free : (ring : Ring) (f g : List Term) → HasNoVariables ring f → HasNoVariables ring g → HasNoVariables ring (f ++ g)
 append_free ring [] g h k = k
 append_free ring (y ∷ f) g h k = (h.0, append_free ring f g h.1 k)
 
-pub multiple_free : (ring : Ring) (c : ℕ) (t : List ℕ) (f : List Term) → take ring.variables t ≡ replicate ring.variables 0 → HasNoVariables ring f
+multiple_free : (ring : Ring) (c : ℕ) (t : List ℕ) (f : List Term) → take ring.variables t ≡ replicate ring.variables 0 → HasNoVariables ring f
     → HasNoVariables ring (multiple c t f)
 multiple_free ring c t [] l h = tt
 multiple_free ring c t (y ∷ f) l h =
@@ -87,7 +87,7 @@ multiple_free ring c t (y ∷ f) l h =
     )
 
 -- what divides 1 in the variables has none
-pub free_divisor : (ring : Ring) (t m : List ℕ) → length t ≡ places ring → divides t m ≡ true → take ring.variables m ≡ replicate ring.variables 0
+free_divisor : (ring : Ring) (t m : List ℕ) → length t ≡ places ring → divides t m ≡ true → take ring.variables m ≡ replicate ring.variables 0
     → take ring.variables t ≡ replicate ring.variables 0
 free_divisor ring t m l d e =
     divides_zeros ring.variables (take ring.variables t) (variables_length ring t l)
@@ -124,7 +124,7 @@ module _ (ring : Ring) (a : List ℕ) (pos : 0 < ring.modulus) (F G : List (List
         append_free ring f (multiple q t g) free.1 (multiple_free ring q t g free_t free_g)
 
     -- its lead is divided by that of a member g, which has no variables either: less a multiple of g it has a lower lead
-    by_member : (g : List Term) → IsCanonical ring g → lead_coefficient g ≡ 1 → IsMember ring F g → divides (lead g) m ≡ true
+    by_member : (g : List Term) → IsCanonical ring g → leading_coefficient g ≡ 1 → IsMember ring F g → divides (leading_monomial g) m ≡ true
         → (HasNoVariables ring g → value_at ring a g ≡ 0) → Vanishes ring a pos whole
     by_member [] k o ig d v = absurd (omega arith)
     by_member (z ∷ g) k o ig d v =

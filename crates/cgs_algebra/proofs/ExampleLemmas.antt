@@ -4,13 +4,14 @@ use Rattle.cgs_exps.specs.Monomial.{divides}
 use Rattle.cgs_order.specs.TermOrder.{key, compared}
 use Rattle.cgs_poly.specs.declared.ring.Ring.{Ring}
 use Rattle.cgs_poly.specs.Polynomial.{Term, IsOfRing, IsCanonical, canonical, SameCoefficients}
-use Rattle.cgs_poly.specs.Product.{lead_coefficient}
+use Rattle.cgs_poly.specs.Product.{leading_coefficient}
 use Rattle.cgs_poly.proofs.SumLemmas.{Alike, alike_back, alike_trans, alike_same, coefficients_from_alike}
 use Rattle.cgs_poly.proofs.CanonicalLemmas.{canonical_alike}
 use Rattle.cgs_algebra.specs.Combination.{summand, IsMember}
-use Rattle.cgs_algebra.specs.Groebner.{AreMonic, IsGroebnerBasis, DividesNone, lead_at}
+use Rattle.cgs_algebra.specs.Groebner.{AreMonic, IsGroebnerBasis, DividesNone, leading_monomial_at}
 use Rattle.cgs_algebra.specs.SPolynomial.{HasLcmRepresentation}
-use Rattle.cgs_algebra.specs.Examples.{seven, x_squared_less_one, xy_less_one, x_less_y, y_squared_less_one, generators, basis, ReducedExample, ZeroTermIsRefused}
+use Rattle.cgs_algebra.specs.Examples.{seven, x_squared_less_one, xy_less_one, x_less_y, y_squared_less_one, generators, basis, ReducedExample}
+use Rattle.cgs_algebra.specs.Examples.{ZeroTermIsRefused}
 use Rattle.cgs_algebra.proofs.GroebnerLemmas.{complete_groebner}
 use Rattle.cgs_algebra.proofs.CriterionLemmas.{coprime_criterion}
 
@@ -77,8 +78,9 @@ at_pairs P a b (suc (suc i)) j h k n = absurd (omega arith)
 basis_monic : AreMonic seven basis
 unfolding key compared
 basis_monic = record {
-  canonical = at_two (λ i. IsCanonical seven (get_or basis i [])) (omega arith, omega arith, refl, refl, (omega arith, omega arith, refl, tt, tt)) (omega arith, omega arith, refl, refl, (omega arith, omega arith, refl, tt, tt));
-  monic = at_two (λ i. lead_coefficient (get_or basis i []) ≡ 1) refl refl;
+  canonical = at_two (λ i. IsCanonical seven (get_or basis i [])) (omega arith, omega arith, refl, refl, (omega arith, omega arith, refl, tt, tt))
+      (omega arith, omega arith, refl, refl, (omega arith, omega arith, refl, tt, tt));
+  monic = at_two (λ i. leading_coefficient (get_or basis i []) ≡ 1) refl refl;
 }
 
 -- the one pair has coprime leads
@@ -100,10 +102,10 @@ reduced_example = (
   record {
     minimal = record {
       groebner = basis_groebner;
-      apart = at_pairs (λ i j. ¬ (divides (lead_at basis i) (lead_at basis j) ≡ true)) (λ d. cc) (λ d. cc);
+      apart = at_pairs (λ i j. ¬ (divides (leading_monomial_at basis i) (leading_monomial_at basis j) ≡ true)) (λ d. cc) (λ d. cc);
     };
     monic = basis_monic;
-    reduced = at_pairs (λ i j. DividesNone (lead_at basis i) (get_or basis j [])) (λ d. cc, (λ d. cc, tt)) (λ d. cc, (λ d. cc, tt));
+    reduced = at_pairs (λ i j. DividesNone (leading_monomial_at basis i) (get_or basis j [])) (λ d. cc, (λ d. cc, tt)) (λ d. cc, (λ d. cc, tt));
   },
   (refl, tt),
 )

@@ -10,13 +10,12 @@ use Rattle.cgs_order.specs.TermOrder.{compared}
 use Rattle.cgs_order.proofs.OrderLemmas.{compared_induction}
 use Rattle.cgs_poly.specs.declared.ring.Ring.{Ring}
 use Rattle.cgs_poly.specs.Polynomial.{Term, term, places, order_of, total, IsOfRing, StartsBelow, IsCanonical, canonical}
-use Rattle.cgs_poly.specs.Product.{multiple, lead}
+use Rattle.cgs_poly.specs.Product.{multiple, leading_monomial}
 use Rattle.cgs_poly.proofs.SumLemmas.{Alike, alike_same, alike_back, alike_trans, alike_append, total_append}
 use Rattle.cgs_poly.proofs.CanonicalLemmas.{append_of_ring, canonical_of_ring, is_canonical, canonical_alike, canonical_starts}
 use Rattle.cgs_poly.proofs.ProductLemmas.{multiple_of_ring, total_multiple}
-use Rattle.cgs_algebra.specs.Combination.{Summand, combined, IsCombination, IsMember}
+use Rattle.cgs_algebra.specs.Combination.{Summand, combined, IsCombination, IsMember, SameIdeal}
 use Rattle.cgs_algebra.specs.Groebner.{IsGroebnerBasis}
-use Rattle.cgs_algebra.specs.Stability.{SameIdeal}
 use Rattle.cgs_algebra.proofs.MemberLemmas.{member_alike, same_member, zero_member, sum_member, multiple_member, generator_member, member_of_members}
 use Rattle.cgs_algebra.proofs.FieldLemmas.{IsOpposite, opposite_in_field}
 use Rattle.cgs_algebra.proofs.ReductionLemmas.{cofactor, cofactor_length, remainder, remainder_of_ring, remainder_below, remainder_alike}
@@ -39,7 +38,7 @@ added_back p q t f g pos = record {
     sums r q v s i j k l a b c d = let e : (r * q) * v ≡ r * (q * v) = mul_assoc r q v in omega arith
 
 -- each member has the terms of the ring, but for terms that add up to nothing
-pub combined_of_ring : (ring : Ring) (F : List (List Term)) → ((i : ℕ) → i < length F → IsOfRing ring (get_or F i [])) → (ks : List Summand)
+combined_of_ring : (ring : Ring) (F : List (List Term)) → ((i : ℕ) → i < length F → IsOfRing ring (get_or F i [])) → (ks : List Summand)
     → IsCombination ring F ks → IsOfRing ring (combined F ks)
 combined_of_ring ring F ok [] h = tt
 combined_of_ring ring F ok (k ∷ ks) h =
@@ -62,7 +61,8 @@ module _ (ring : Ring) (F G : List (List Term)) (field : IsField ring.modulus) (
   lower_member m lower f (y ∷ g) e k s h = same_member ring G pos (alike_back e) (lower y.exponents k.2 s y.coefficient g k (same_member ring F pos e h))
 
   by_member : (m : List ℕ) → Lower m → (c : ℕ) (f : List Term) → IsCanonical ring (term c m ∷ f) → IsMember ring F (term c m ∷ f)
-      → (g : List Term) → IsCanonical ring g → (g ≡ [] → ⊥) → IsMember ring F g → IsMember ring G g → divides (lead g) m ≡ true → IsMember ring G (term c m ∷ f)
+      → (g : List Term) → IsCanonical ring g → (g ≡ [] → ⊥) → IsMember ring F g → IsMember ring G g → divides (leading_monomial g) m ≡ true
+      → IsMember ring G (term c m ∷ f)
   by_member m lower c f poly inside [] k some ig jg d = absurd (some refl)
   by_member m lower c f poly inside (z ∷ g) k some ig jg d =
       let cancels : IsOpposite ring.modulus c z.coefficient =
@@ -93,7 +93,7 @@ module _ (ring : Ring) (F G : List (List Term)) (field : IsField ring.modulus) (
   canonical_generated (y ∷ f) k h = compared_induction (order_of ring) Claim claim_step y.exponents k.2 y.coefficient f k h
 
   -- each member of the ideal is one of that of its Gröbner basis
-  pub generated : (f_ok : (i : ℕ) → i < length F → IsOfRing ring (get_or F i [])) (f : List Term) → IsMember ring F f → IsMember ring G f
+  generated : (f_ok : (i : ℕ) → i < length F → IsOfRing ring (get_or F i [])) (f : List Term) → IsMember ring F f → IsMember ring G f
   generated f_ok f h =
       let g : List Term = combined F h.summands in
       let of_ring : IsOfRing ring g = combined_of_ring ring F f_ok h.summands h.combination in

@@ -8,18 +8,19 @@ use Rattle.cgs_exps.specs.Monomial.{product}
 use Rattle.cgs_order.specs.TermOrder.{compared}
 use Rattle.cgs_poly.specs.declared.ring.Ring.{Ring}
 use Rattle.cgs_poly.specs.Polynomial.{Term, order_of, SameCoefficients, IsOfRing}
-use Rattle.cgs_poly.specs.Product.{multiple, lead}
+use Rattle.cgs_poly.specs.Product.{multiple, leading_monomial}
 use Rattle.cgs_algebra.specs.Combination.{Summand, combined, IsCombination, IsMember}
 use Rattle.cgs_algebra.specs.SPolynomial.{pair_lcm, LeadsBelow, HasLcmRepresentation}
 use Rattle.cgs_algebra.proofs.MemberLemmas.{generator_member, member_of_members}
 
 module _ (ring : Ring) (G H : List (List Term)) where
-  pub still_within : (i : ℕ) → i < length G → i < length (G ++ H)
+  still_within : (i : ℕ) → i < length G → i < length (G ++ H)
   still_within i l = omega (arith, length-append G H)
 
   pub combined_more : (ks : List Summand) → IsCombination ring G ks → combined (G ++ H) ks ≡ combined G ks
   combined_more [] h = refl
-  combined_more (k ∷ ks) h = rw (get_or_append_left G H [] k.place h.1) (ap (λ f. multiple k.coefficient k.monomial (get_or G k.place []) ++ f) (combined_more ks h.2))
+  combined_more (k ∷ ks) h =
+      rw (get_or_append_left G H [] k.place h.1) (ap (λ f. multiple k.coefficient k.monomial (get_or G k.place []) ++ f) (combined_more ks h.2))
 
   pub combination_more : (ks : List Summand) → IsCombination ring G ks → IsCombination ring (G ++ H) ks
   combination_more [] h = tt
@@ -27,8 +28,10 @@ module _ (ring : Ring) (G H : List (List Term)) where
 
   pub leads_more : (m : List ℕ) (ks : List Summand) → IsCombination ring G ks → LeadsBelow ring G m ks → LeadsBelow ring (G ++ H) m ks
   leads_more m [] h b = tt
-  leads_more m (k ∷ ks) h b =
-      (subst (λ g. compared (order_of ring) (product k.monomial (lead g)) m ≡ Less) (sym (get_or_append_left G H [] k.place h.1)) b.0, leads_more m ks h.2 b.1)
+  leads_more m (k ∷ ks) h b = (
+    subst (λ g. compared (order_of ring) (product k.monomial (leading_monomial g)) m ≡ Less) (sym (get_or_append_left G H [] k.place h.1)) b.0,
+    leads_more m ks h.2 b.1,
+  )
 
   pub member_more : (f : List Term) → IsMember ring G f → IsMember ring (G ++ H) f
   member_more f h = record {

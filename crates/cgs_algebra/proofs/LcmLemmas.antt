@@ -2,7 +2,8 @@
 use Rattle.std.proofs.Common.{ℕ, ◌≡◌, ◌+◌, List, [], ◌∷◌, Bool, true, false, length, refl, sym, ap, ◌∙◌, subst, arith, max, ◌||◌, ◌==◌}
 use Rattle.std.proofs.lemmas.Bool.{and_parts, eqb-true}
 use Rattle.cgs_exps.specs.Monomial.{product, divides, quotient, lcm, coprime}
-use Rattle.cgs_exps.proofs.MonomialLemmas.{product_assoc, product_comm, product_length, product_cancel, quotient_product, quotient_length, lcm_length, lcm_comm, lcm_divides, divides_lcm_left, divides_product}
+use Rattle.cgs_exps.proofs.MonomialLemmas.{product_assoc, product_comm, product_length, product_cancel, quotient_product, quotient_length, lcm_length, lcm_comm}
+use Rattle.cgs_exps.proofs.MonomialLemmas.{lcm_divides, divides_lcm_left, divides_product}
 
 pub divides_lcm_right : (a b : List ℕ) → length a ≡ length b → divides b (lcm a b) ≡ true
 divides_lcm_right a b e = subst (λ k. divides b k ≡ true) (lcm_comm b a (sym e)) (divides_lcm_left b a (sym e))
@@ -25,7 +26,8 @@ pub record CommonMultiple (n : ℕ) (a b t s m : List ℕ) : Type 0 where
   pub left : product factor (quotient (lcm a b) a) ≡ t
   pub right : product factor (quotient (lcm a b) b) ≡ s
 
-pub common_multiple : (n : ℕ) (a b t s m : List ℕ) → length a ≡ n → length b ≡ n → length t ≡ n → length s ≡ n → product t a ≡ m → product s b ≡ m → CommonMultiple n a b t s m
+pub common_multiple : (n : ℕ) (a b t s m : List ℕ) → length a ≡ n → length b ≡ n → length t ≡ n
+    → length s ≡ n → product t a ≡ m → product s b ≡ m → CommonMultiple n a b t s m
 common_multiple n a b t s m la lb lt ls et es =
     let q : List ℕ = lcm a b in
     let lq : length q ≡ n = lcm_length a b n la lb in

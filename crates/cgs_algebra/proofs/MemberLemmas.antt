@@ -7,7 +7,8 @@ use Rattle.cgs_poly.specs.Product.{multiple, all_products}
 use Rattle.cgs_poly.proofs.SumLemmas.{Alike, alike_same, alike_trans, alike_append, alike_from_coefficients, coefficients_from_alike}
 use Rattle.cgs_poly.proofs.MultipleLemmas.{multiple_one, total_products_comm}
 use Rattle.cgs_algebra.specs.Combination.{Summand, summand, combined, IsCombination, IsMember}
-use Rattle.cgs_algebra.proofs.CombinationLemmas.{combined_append, combination_append, shifted_summands, combined_shifted, combination_shifted, scaled_summands, total_scaled_summands, combination_scaled}
+use Rattle.cgs_algebra.proofs.CombinationLemmas.{combined_append, combination_append, shifted_summands, combined_shifted, combination_shifted, scaled_summands}
+use Rattle.cgs_algebra.proofs.CombinationLemmas.{total_scaled_summands, combination_scaled}
 use Rattle.cgs_poly.proofs.ProductLemmas.{alike_multiple}
 use Rattle.cgs_field.proofs.ModularLemmas.{mod_mul}
 
@@ -51,7 +52,8 @@ module _ (ring : Ring) (F : List (List Term)) (pos : 0 < ring.modulus) where
   member_product f g h m = same_member (products_comm ring.modulus g f) (product_member f g h m)
 
   -- g comes to c times f
-  pub scaled_member : (c : ℕ) (f g : List Term) → ((w : List ℕ → ℕ) → total w g % ring.modulus ≡ (c * total w f) % ring.modulus) → IsMember ring F f → IsMember ring F g
+  pub scaled_member : (c : ℕ) (f g : List Term) → ((w : List ℕ → ℕ) → total w g % ring.modulus ≡ (c * total w f) % ring.modulus)
+      → IsMember ring F f → IsMember ring F g
   scaled_member c f g e h =
       member_from_alike (scaled_summands c h.summands) (combination_scaled ring F c h.summands h.combination)
       (record {
@@ -72,7 +74,8 @@ module _ (ring : Ring) (F G : List (List Term)) (pos : 0 < ring.modulus) (inside
   combined_member [] h = zero_member ring G pos
   combined_member (k ∷ ks) h =
       let g : List Term = get_or F k.place [] in
-      sum_member ring G pos (multiple k.coefficient k.monomial g) (combined F ks) (multiple_member ring G pos k.coefficient k.monomial g h.0 (inside k.place h.1)) (combined_member ks h.2)
+      sum_member ring G pos (multiple k.coefficient k.monomial g) (combined F ks)
+      (multiple_member ring G pos k.coefficient k.monomial g h.0 (inside k.place h.1)) (combined_member ks h.2)
 
   -- the ideal of members of an ideal is inside it
   pub member_of_members : (f : List Term) → IsMember ring F f → IsMember ring G f

@@ -1,5 +1,6 @@
 -- The polynomial 1, and the ideals that have it as a member.
-use Rattle.std.proofs.Common.{ℕ, zero, suc, ◌≡◌, ◌*◌, ◌+◌, ◌%◌, ◌<◌, ◌↔◌, Bool, true, false, IsTrue, List, [], ◌∷◌, length, get_or, replicate, eqb, refl, sym, ap, ◌∙◌, subst, arith}
+use Rattle.std.proofs.Common.{ℕ, zero, suc, ◌≡◌, ◌*◌, ◌+◌, ◌%◌, ◌<◌, ◌↔◌, Bool, true, false, IsTrue, List, [], ◌∷◌, length, get_or, replicate, eqb, refl, sym}
+use Rattle.std.proofs.Common.{ap, ◌∙◌, subst, arith}
 use Rattle.std.specs.declared.cmp.Ordering.TheVariants.{Less}
 use Rattle.std.proofs.Math.Nat.{mul-one}
 use Rattle.std.proofs.lemmas.Bool.{eqb-true, eqb-false, le-leb, and_from}
@@ -8,13 +9,13 @@ use Rattle.cgs_exps.proofs.MonomialLemmas.{product_comm, divides_zeros, one_prod
 use Rattle.cgs_order.specs.TermOrder.{compared}
 use Rattle.cgs_poly.specs.declared.ring.Ring.{Ring}
 use Rattle.cgs_poly.specs.Polynomial.{Term, term, order_of, places, total, IsOfRing, IsCanonical, one}
-use Rattle.cgs_poly.specs.Product.{multiple, lead, lead_coefficient}
+use Rattle.cgs_poly.specs.Product.{multiple, leading_monomial, leading_coefficient}
 use Rattle.cgs_poly.proofs.OneLemmas.{one_canonical}
 use Rattle.cgs_poly.proofs.CanonicalLemmas.{same_term}
 use Rattle.cgs_poly.proofs.ProductOrderLemmas.{one_least}
 use Rattle.cgs_poly.proofs.MultipleLemmas.{lead_length}
 use Rattle.cgs_algebra.specs.Combination.{IsMember}
-use Rattle.cgs_algebra.specs.Groebner.{lead_at, IsReduced}
+use Rattle.cgs_algebra.specs.Groebner.{leading_monomial_at, IsReduced}
 use Rattle.cgs_algebra.proofs.MemberLemmas.{same_member, zero_member, sum_member, multiple_member}
 
 pub divides_by_one : (n : ℕ) (m : List ℕ) → divides (replicate n 0) m ≡ true
@@ -23,7 +24,7 @@ divides_by_one (suc n) [] = refl
 divides_by_one (suc n) (x ∷ m) = and_from _ _ (le-leb 0 x (omega arith)) (divides_by_one n m)
 
 -- a monic polynomial with the lead 1 is 1
-monic_one : (ring : Ring) (f : List Term) → IsCanonical ring f → lead_coefficient f ≡ 1 → lead f ≡ replicate (places ring) 0 → f ≡ one ring
+monic_one : (ring : Ring) (f : List Term) → IsCanonical ring f → leading_coefficient f ≡ 1 → leading_monomial f ≡ replicate (places ring) 0 → f ≡ one ring
 monic_one ring [] h c m = absurd (omega arith)
 monic_one ring (x ∷ []) h c m = ap (λ y. y ∷ []) (same_term x (term 1 (replicate (places ring) 0)) c m)
 monic_one ring (x ∷ y ∷ f) h c m =
@@ -53,17 +54,18 @@ at_one P a (suc i) h = absurd (omega arith)
 
 module _ (ring : Ring) (two : 1 < ring.modulus) (F : List (List Term)) where
   module _ (G : List (List Term)) (reduced : IsReduced ring G F) where
-    long : (i : ℕ) → i < length G → length (lead_at G i) ≡ places ring
+    long : (i : ℕ) → i < length G → length (leading_monomial_at G i) ≡ places ring
     long i l = lead_length ring (get_or G i []) (reduced.monic.canonical i l) (reduced.minimal.groebner.not_zero i l)
 
     -- the member whose lead is 1 is alone
-    alone_at : (i : ℕ) → i < length G → lead_at G i ≡ replicate (places ring) 0 → G ≡ one ring ∷ []
+    alone_at : (i : ℕ) → i < length G → leading_monomial_at G i ≡ replicate (places ring) 0 → G ≡ one ring ∷ []
     alone_at i l e = by_list G (λ j k. same j k (eqb i j) refl) i l (monic_one ring (get_or G i []) (reduced.monic.canonical i l) (reduced.monic.monic i l) e)
       where
         same : (j : ℕ) → j < length G → (b : Bool) → eqb i j ≡ b → i ≡ j
         same j k true q = eqb-true i j q
         same j k false q =
-            let d : IsTrue (divides (lead_at G i) (lead_at G j)) = subst (λ m. IsTrue (divides m (lead_at G j))) (sym e) (divides_by_one (places ring) (lead_at G j)) in
+            let d : IsTrue (divides (leading_monomial_at G i) (leading_monomial_at G j)) =
+            subst (λ m. IsTrue (divides m (leading_monomial_at G j))) (sym e) (divides_by_one (places ring) (leading_monomial_at G j)) in
             absurd (reduced.minimal.apart i j l k (eqb-false i j q) d)
 
         by_list : (H : List (List Term)) → ((j : ℕ) → j < length H → i ≡ j) → (n : ℕ) → n < length H → get_or H n [] ≡ one ring → H ≡ one ring ∷ []
@@ -78,7 +80,7 @@ module _ (ring : Ring) (two : 1 < ring.modulus) (F : List (List Term)) where
     one_from_member : IsMember ring F (one ring) → G ≡ one ring ∷ []
     one_from_member m =
         let d = reduced.minimal.groebner.leads (one ring) (one_canonical ring two) m (λ z. cc) in
-        alone_at d.0 d.1 (divides_zeros (places ring) (lead_at G d.0) (long d.0 d.1) d.2)
+        alone_at d.0 d.1 (divides_zeros (places ring) (leading_monomial_at G d.0) (long d.0 d.1) d.2)
 
     member_from_one : G ≡ one ring ∷ [] → IsMember ring F (one ring)
     member_from_one e =
@@ -96,13 +98,13 @@ module _ (ring : Ring) (two : 1 < ring.modulus) (F : List (List Term)) where
         canonical = at_one (λ i. IsCanonical ring (get_or (one ring ∷ []) i [])) (one_canonical ring two);
         members = at_one (λ i. IsMember ring F (get_or (one ring ∷ []) i [])) m;
         not_zero = at_one (λ i. ¬ (get_or (one ring ∷ []) i [] ≡ [])) (λ e. cc);
-        leads = λ f k h some. (0, omega arith, divides_by_one (places ring) (lead f));
+        leads = λ f k h some. (0, omega arith, divides_by_one (places ring) (leading_monomial f));
       };
       apart = λ i j hi hj n d. n (omega (arith, hi, hj));
     };
     monic = record {
       canonical = at_one (λ i. IsCanonical ring (get_or (one ring ∷ []) i [])) (one_canonical ring two);
-      monic = at_one (λ i. lead_coefficient (get_or (one ring ∷ []) i []) ≡ 1) refl;
+      monic = at_one (λ i. leading_coefficient (get_or (one ring ∷ []) i []) ≡ 1) refl;
     };
     reduced = λ i j hi hj n. absurd (n (omega (arith, hi, hj)));
   }

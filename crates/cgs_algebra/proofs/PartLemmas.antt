@@ -14,8 +14,9 @@ use Rattle.cgs_poly.specs.Polynomial.{Term, places, order_of, total, IsOfRing, I
 use Rattle.cgs_poly.specs.Parameters.{variables_ring, part_at, strip, without_variables}
 use Rattle.cgs_poly.proofs.CanonicalLemmas.{AllBelow, all_below_canonical, canonical_of_ring}
 use Rattle.cgs_poly.proofs.ProductOrderLemmas.{take_product, compared_shift}
+use Rattle.cgs_poly.proofs.SpecialisedLemmas.{variables_length, parameters_length}
 use Rattle.cgs_algebra.proofs.WeightLemmas.{Each}
-use Rattle.cgs_algebra.proofs.VariablesOrderLemmas.{variables_length, parameters_length, below_from_variables, variables_from_below}
+use Rattle.cgs_algebra.proofs.VariablesOrderLemmas.{below_from_variables, variables_from_below}
 use Rattle.cgs_algebra.proofs.PointLemmas.{IsFree}
 
 module _ (ring : Ring) where
@@ -52,7 +53,7 @@ module _ (ring : Ring) where
   abbrev pub VariablesBelow : List ℕ → List ℕ → Type 0
   VariablesBelow x m = (length m ≡ places ring) × (compared (order_of (variables_ring ring)) (take ring.variables m) x ≡ Less)
 
-  pub rest_each : (m : List ℕ) (f : List Term) → length m ≡ places ring → IsOfRing ring f → AllBelow ring m f
+  rest_each : (m : List ℕ) (f : List Term) → length m ≡ places ring → IsOfRing ring f → AllBelow ring m f
       → Each (VariablesBelow (take ring.variables m)) (rest_of (take ring.variables m) f)
   rest_each m [] l h b = tt
   rest_each m (y ∷ f) l h b = step (slice_cmp nat_cmp (take ring.variables y.exponents) (take ring.variables m)) refl (rest_each m f l h.1 b.1)
@@ -93,7 +94,7 @@ module _ (ring : Ring) where
       (variables_length ring u l ∙ sym (variables_length ring m h.0)) (variables_length ring u l ∙ sym ly) in
       (product_length u m (places ring) l h.0, rw (take_product ring.variables u m, ← e) (s ∙ h.1))
 
-  pub without_free : (m : List ℕ) → length m ≡ places ring → IsFree ring (without_variables ring m)
+  without_free : (m : List ℕ) → length m ≡ places ring → IsFree ring (without_variables ring m)
   without_free m l = (
     omega (
       arith,

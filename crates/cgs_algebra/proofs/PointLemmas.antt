@@ -1,6 +1,6 @@
 -- The values of terms at a point of the parameters, as weights of their monomials.
 use Rattle.std.proofs.Common.{ℕ, zero, suc, ◌≡◌, ◌+◌, ◌*◌, ◌%◌, ◌<◌, List, [], ◌∷◌, length, get_or, map, take, drop, replicate, refl, sym, ap, ◌∙◌, arith}
-use Rattle.std.proofs.Math.Nat.{zero-mul, mul_assoc, add-zero}
+use Rattle.std.proofs.Math.Nat.{zero-mul}
 use Rattle.cgs_exps.specs.Monomial.{product}
 use Rattle.cgs_exps.proofs.MonomialLemmas.{one_product}
 use Rattle.cgs_poly.specs.declared.ring.Ring.{Ring}
@@ -11,30 +11,10 @@ use Rattle.cgs_poly.proofs.SumLemmas.{total_append}
 use Rattle.cgs_poly.proofs.CanonicalLemmas.{canonical_alike}
 use Rattle.cgs_poly.proofs.ProductLemmas.{total_multiple}
 use Rattle.cgs_poly.proofs.MultipleLemmas.{total_factor}
-use Rattle.cgs_poly.proofs.SpecialisedLemmas.{power_product}
-use Rattle.cgs_poly.proofs.ProductOrderLemmas.{take_product, drop_product}
+use Rattle.cgs_poly.proofs.SpecialisedLemmas.{at_point, at_point_product, total_specialised_terms, specialised_of_ring, variables_length}
 use Rattle.cgs_algebra.proofs.WeightLemmas.{Each, total_same, HasLength, each_length}
-use Rattle.cgs_algebra.proofs.VariablesOrderLemmas.{variables_length, parameters_length}
 
 module _ (ring : Ring) where
-  -- the weight by which the terms that m becomes are weighed
-  abbrev pub at_point : List ℕ → (List ℕ → ℕ) → List ℕ → ℕ
-  at_point a w m = power_at (drop ring.variables m) a * w (take ring.variables m)
-
-  -- a sum over what f becomes is a sum over f, each term by its power at the point
-  pub total_specialised_terms : (a : List ℕ) (w : List ℕ → ℕ) (f : List Term) → total w (specialised_terms ring a f) ≡ total (at_point a w) f
-  total_specialised_terms a w [] = refl
-  total_specialised_terms a w (y ∷ f) =
-      cc (mul_assoc y.coefficient (power_at (drop ring.variables y.exponents) a) (w (take ring.variables y.exponents)), total_specialised_terms a w f)
-
-  pub at_point_product : (a : List ℕ) (w : List ℕ → ℕ) (u m : List ℕ) → length u ≡ places ring → length m ≡ places ring
-      → at_point a w (product u m) ≡ power_at (drop ring.variables u) a * at_point a (λ n. w (product (take ring.variables u) n)) m
-  at_point_product a w u m l k =
-      let p : power_at (product (drop ring.variables u) (drop ring.variables m)) a ≡ power_at (drop ring.variables u) a * power_at (drop ring.variables m) a =
-      power_product (drop ring.variables u) (drop ring.variables m) a (parameters_length ring u l ∙ sym (parameters_length ring m k)) in
-      rw (take_product ring.variables u m, drop_product ring.variables u m, p)
-      (mul_assoc (power_at (drop ring.variables u) a) (power_at (drop ring.variables m) a) (w (product (take ring.variables u) (take ring.variables m))))
-
   -- without variables
   abbrev pub IsFree : List ℕ → Type 0
   IsFree u = (length u ≡ places ring) × (take ring.variables u ≡ replicate ring.variables 0)
@@ -45,31 +25,29 @@ module _ (ring : Ring) where
 
   -- a product with a polynomial in the parameters becomes a multiple by its value
   pub products_at_point : (a : List ℕ) (w : List ℕ → ℕ) (q f : List Term) → Each IsFree q → IsOfRing ring f
-      → total (at_point a w) (all_products q f) ≡ total (power_weight a) q * total (at_point a w) f
-  products_at_point a w [] f h k = sym (zero-mul (total (at_point a w) f))
+      → total (at_point ring a w) (all_products q f) ≡ total (power_weight a) q * total (at_point ring a w) f
+  products_at_point a w [] f h k = sym (zero-mul (total (at_point ring a w) f))
   products_at_point a w (y ∷ q) f h k =
-      let i = total_append (at_point a w) (multiple y.coefficient y.exponents f) (all_products q f) in
-      let j = total_multiple (at_point a w) y.coefficient y.exponents f in
-      let s : total (λ m. at_point a w (product y.exponents m)) f ≡ total (λ m. power_weight a y.exponents * at_point a w m) f =
-      total_same (HasLength ring) (λ m. at_point a w (product y.exponents m)) (λ m. power_weight a y.exponents * at_point a w m) f (each_length ring f k)
+      let i = total_append (at_point ring a w) (multiple y.coefficient y.exponents f) (all_products q f) in
+      let j = total_multiple (at_point ring a w) y.coefficient y.exponents f in
+      let s : total (λ m. at_point ring a w (product y.exponents m)) f ≡ total (λ m. power_weight a y.exponents * at_point ring a w m) f =
+      total_same (HasLength ring) (λ m. at_point ring a w (product y.exponents m)) (λ m.
+      power_weight a y.exponents * at_point ring a w m) f (each_length ring f k)
       each in
-      let e : total (λ m. power_weight a y.exponents * at_point a w m) f ≡ power_weight a y.exponents * total (at_point a w) f =
-      total_factor (power_weight a y.exponents) (at_point a w) f in
+      let e : total (λ m. power_weight a y.exponents * at_point ring a w m) f ≡ power_weight a y.exponents * total (at_point ring a w) f =
+      total_factor (power_weight a y.exponents) (at_point ring a w) f in
       let ih = products_at_point a w q f h.1 k in
-      join y.coefficient (power_weight a y.exponents) (total (at_point a w) f) (total (power_weight a) q) _ _ _ i (j ∙ ap (λ n. y.coefficient * n) (s ∙ e)) ih
+      join y.coefficient (power_weight a y.exponents) (total (at_point ring a w) f)
+      (total (power_weight a) q) _ _ _ i (j ∙ ap (λ n. y.coefficient * n) (s ∙ e)) ih
     where
-      each : (m : List ℕ) → HasLength ring m → at_point a w (product y.exponents m) ≡ power_weight a y.exponents * at_point a w m
+      each : (m : List ℕ) → HasLength ring m → at_point ring a w (product y.exponents m) ≡ power_weight a y.exponents * at_point ring a w m
       each m l =
           let z : product (take ring.variables y.exponents) (take ring.variables m) ≡ take ring.variables m =
           rw h.0.1 (one_product ring.variables (take ring.variables m) (variables_length ring m l)) in
-          at_point_product a w y.exponents m h.0.0 l ∙ ap (λ n. power_weight a y.exponents * (power_at (drop ring.variables m) a * w n)) z
+          at_point_product ring a w y.exponents m h.0.0 l ∙ ap (λ n. power_weight a y.exponents * (power_at (drop ring.variables m) a * w n)) z
 
       join : (c v s t i j k : ℕ) → i ≡ j + k → j ≡ c * (v * s) → k ≡ t * s → i ≡ (c * v + t) * s
       join c v s t i j k p q r = omega arith
-
-pub specialised_of_ring : (ring : Ring) (a : List ℕ) (f : List Term) → IsOfRing ring f → IsOfRing (variables_ring ring) (specialised_terms ring a f)
-specialised_of_ring ring a [] h = tt
-specialised_of_ring ring a (y ∷ f) h = (variables_length ring y.exponents h.0 ∙ sym (add-zero ring.variables), specialised_of_ring ring a f h.1)
 
 -- what f becomes, under a weight
 pub total_specialised : (ring : Ring) (a : List ℕ) (w : List ℕ → ℕ) (f : List Term) → 0 < ring.modulus → IsOfRing ring f
@@ -81,15 +59,3 @@ pub get_specialised : (ring : Ring) (a : List ℕ) (F : List (List Term)) (i : �
 get_specialised ring a [] i = refl
 get_specialised ring a (f ∷ F) zero = refl
 get_specialised ring a (f ∷ F) (suc i) = get_specialised ring a F i
-
--- a multiple of a polynomial at the point
-pub multiple_at_point : (ring : Ring) (a : List ℕ) (w : List ℕ → ℕ) (c : ℕ) (t : List ℕ) (f : List Term) → length t ≡ places ring → IsOfRing ring f
-    → total (at_point ring a w) (multiple c t f)
-    ≡ (c * power_at (drop ring.variables t) a) * total (at_point ring a (λ n. w (product (take ring.variables t) n))) f
-multiple_at_point ring a w c t f l h =
-    let v : List ℕ → ℕ = at_point ring a (λ n. w (product (take ring.variables t) n)) in
-    let s : total (λ m. at_point ring a w (product t m)) f ≡ power_at (drop ring.variables t) a * total v f =
-    total_same (HasLength ring) (λ m. at_point ring a w (product t m)) (λ m. power_at (drop ring.variables t) a * v m) f (each_length ring f h)
-    (λ m k. at_point_product ring a w t m l k)
-    ∙ total_factor (power_at (drop ring.variables t) a) v f in
-    total_multiple (at_point ring a w) c t f ∙ (ap (λ n. c * n) s ∙ sym (mul_assoc c (power_at (drop ring.variables t) a) (total v f)))

@@ -8,16 +8,17 @@ use Rattle.cgs_exps.specs.Monomial.{product, quotient, lcm}
 use Rattle.cgs_exps.proofs.MonomialLemmas.{product_assoc, product_length, lcm_length}
 use Rattle.cgs_order.specs.TermOrder.{compared}
 use Rattle.cgs_poly.specs.declared.ring.Ring.{Ring}
-use Rattle.cgs_poly.specs.Polynomial.{Term, places, order_of, total, only}
+use Rattle.cgs_poly.specs.Polynomial.{Term, places, order_of, total, indicator}
 use Rattle.cgs_poly.specs.Product.{multiple}
 use Rattle.cgs_poly.proofs.SumLemmas.{Alike, alike_same, alike_trans, alike_append, alike_from_coefficients, total_append}
 use Rattle.cgs_poly.proofs.CanonicalLemmas.{AllBelow, all_below_append, all_below_zero}
 use Rattle.cgs_poly.proofs.MultipleLemmas.{all_below_multiple, lead_length, monic_not_empty}
 use Rattle.cgs_poly.proofs.ProductOrderLemmas.{compared_shift}
 use Rattle.cgs_algebra.specs.Combination.{Summand, combined, IsCombination}
-use Rattle.cgs_algebra.specs.Groebner.{AreMonic, lead_at}
+use Rattle.cgs_algebra.specs.Groebner.{AreMonic, leading_monomial_at}
 use Rattle.cgs_algebra.specs.SPolynomial.{LeadsBelow, HasLcmRepresentation, difference}
-use Rattle.cgs_algebra.proofs.CombinationLemmas.{combined_append, combination_append, leads_append, shifted_summands, combined_shifted, combination_shifted, scaled_summands, total_scaled_summands, combination_scaled, leads_scaled}
+use Rattle.cgs_algebra.proofs.CombinationLemmas.{combined_append, combination_append, leads_append, shifted_summands, combined_shifted, combination_shifted}
+use Rattle.cgs_algebra.proofs.CombinationLemmas.{scaled_summands, total_scaled_summands, combination_scaled, leads_scaled}
 use Rattle.cgs_algebra.proofs.LcmLemmas.{CommonMultiple, common_multiple, same_factor}
 use Rattle.cgs_poly.proofs.ProductLemmas.{total_multiple, multiple_append, multiple_multiple, alike_multiple}
 use Rattle.cgs_field.proofs.ModularLemmas.{mod_mul, mod_opposite, mod_twice}
@@ -32,7 +33,8 @@ pub record IsRepresentedBelow (ring : Ring) (G : List (List Term)) (m : List ℕ
 pub represented_zero : (ring : Ring) (G : List (List Term)) (m : List ℕ) → IsRepresentedBelow ring G m []
 represented_zero ring G m = record { summands = []; combination = tt; below = tt; sum = alike_same ring.modulus [] }
 
-pub represented_alike : {ring : Ring} {G : List (List Term)} {m : List ℕ} {f g : List Term} → Alike ring.modulus g f → IsRepresentedBelow ring G m f → IsRepresentedBelow ring G m g
+pub represented_alike : {ring : Ring} {G : List (List Term)} {m : List ℕ} {f g : List Term}
+    → Alike ring.modulus g f → IsRepresentedBelow ring G m f → IsRepresentedBelow ring G m g
 represented_alike a h = record { summands = h.summands; combination = h.combination; below = h.below; sum = alike_trans a h.sum }
 
 pub represented_append : {ring : Ring} {G : List (List Term)} {m : List ℕ} {f g : List Term} → IsRepresentedBelow ring G m f → IsRepresentedBelow ring G m g
@@ -60,13 +62,14 @@ represented_scaled {ring} {G} {m} {f} c g e h = record {
 
 -- a single multiple
 pub represented_one : (ring : Ring) (G : List (List Term)) (m : List ℕ) (k : Summand) → length k.monomial ≡ places ring → k.place < length G
-    → compared (order_of ring) (product k.monomial (lead_at G k.place)) m ≡ Less
+    → compared (order_of ring) (product k.monomial (leading_monomial_at G k.place)) m ≡ Less
     → IsRepresentedBelow ring G m (multiple k.coefficient k.monomial (get_or G k.place []))
 represented_one ring G m k l h b = record {
   summands = k ∷ [];
   combination = (l, h, tt);
   below = (b, tt);
-  sum = rw (append-nil (multiple k.coefficient k.monomial (get_or G k.place []))) (alike_same ring.modulus (multiple k.coefficient k.monomial (get_or G k.place [])));
+  sum = rw (append-nil (multiple k.coefficient k.monomial (get_or G k.place [])))
+      (alike_same ring.modulus (multiple k.coefficient k.monomial (get_or G k.place [])));
 }
 
 -- differences of two multiples
@@ -74,7 +77,8 @@ represented_one ring G m k l h b = record {
 pub total_difference : (w : List ℕ → ℕ) (ring : Ring) (t : List ℕ) (f : List Term) (s : List ℕ) (g : List Term)
     → total w (difference ring t f s g) ≡ total (λ m. w (product t m)) f + (ring.modulus - 1) * total (λ m. w (product s m)) g
 total_difference w ring t f s g =
-    total_append w (multiple 1 t f) (multiple (ring.modulus - 1) s g) ∙ cc (total_multiple w 1 t f, total_multiple w (ring.modulus - 1) s g, one-mul (total (λ m. w (product t m)) f))
+    total_append w (multiple 1 t f) (multiple (ring.modulus - 1) s g)
+    ∙ cc (total_multiple w 1 t f, total_multiple w (ring.modulus - 1) s g, one-mul (total (λ m. w (product t m)) f))
 
 difference_multiple : (ring : Ring) (u t : List ℕ) (f : List Term) (s : List ℕ) (g : List Term)
     → multiple 1 u (difference ring t f s g) ≡ difference ring (product u t) f (product u s) g
@@ -86,7 +90,8 @@ difference_multiple ring u t f s g =
 difference_same : (ring : Ring) (t : List ℕ) (f : List Term) → 0 < ring.modulus → Alike ring.modulus (difference ring t f t f) []
 difference_same ring t f pos = record {
   under = λ w.
-      ap (λ n. n % ring.modulus) (total_difference w ring t f t f) ∙ (mod_opposite ring.modulus (total (λ m. w (product t m)) f) pos ∙ sym (zero-mod ring.modulus));
+      ap (λ n. n % ring.modulus) (total_difference w ring t f t f)
+      ∙ (mod_opposite ring.modulus (total (λ m. w (product t m)) f) pos ∙ sym (zero-mod ring.modulus));
 }
 
 -- t*f - s*g is -1 times s*g - t*f
@@ -103,14 +108,15 @@ module _ (ring : Ring) (G : List (List Term)) (pos : 0 < ring.modulus) (ok : Are
   abbrev pub at : ℕ → List Term
   at i = get_or G i []
 
-  pub lead_at_length : (i : ℕ) → i < length G → length (lead_at G i) ≡ places ring
+  pub lead_at_length : (i : ℕ) → i < length G → length (leading_monomial_at G i) ≡ places ring
   lead_at_length i h = lead_length ring (at i) (ok.canonical i h) (monic_not_empty (at i) (ok.monic i h))
 
-  leads_shifted : (c : ℕ) (t m : List ℕ) (ks : List Summand) → length t ≡ places ring → length m ≡ places ring → IsCombination ring G ks → LeadsBelow ring G m ks
+  leads_shifted : (c : ℕ) (t m : List ℕ) (ks : List Summand) → length t ≡ places ring
+      → length m ≡ places ring → IsCombination ring G ks → LeadsBelow ring G m ks
       → LeadsBelow ring G (product t m) (shifted_summands c t ks)
   leads_shifted c t m [] l n h b = tt
   leads_shifted c t m (k ∷ ks) l n h b =
-      let g : List ℕ = lead_at G k.place in
+      let g : List ℕ = leading_monomial_at G k.place in
       let s : length (product k.monomial g) ≡ places ring = product_length k.monomial g (places ring) h.0 (lead_at_length k.place h.1) in
       let e = compared_shift (order_of ring) t (product k.monomial g) m (l ∙ sym s) (l ∙ sym n) in
       (rw (product_assoc t k.monomial g) (e ∙ b.0), leads_shifted c t m ks l n h.2 b.1)
@@ -125,11 +131,12 @@ module _ (ring : Ring) (G : List (List Term)) (pos : 0 < ring.modulus) (ok : Are
   }
 
   -- two multiples with the lead m differ by what is represented below m, where the pair has an lcm representation
-  pub pair_represented : (i j : ℕ) (t s m : List ℕ) → i < length G → j < length G → HasLcmRepresentation ring G i j → length t ≡ places ring → length s ≡ places ring
-      → product t (lead_at G i) ≡ m → product s (lead_at G j) ≡ m → IsRepresentedBelow ring G m (difference ring t (at i) s (at j))
+  pair_represented : (i j : ℕ) (t s m : List ℕ) → i < length G → j < length G
+      → HasLcmRepresentation ring G i j → length t ≡ places ring → length s ≡ places ring
+      → product t (leading_monomial_at G i) ≡ m → product s (leading_monomial_at G j) ≡ m → IsRepresentedBelow ring G m (difference ring t (at i) s (at j))
   pair_represented i j t s m hi hj pair lt ls et es =
-      let a : List ℕ = lead_at G i in
-      let b : List ℕ = lead_at G j in
+      let a : List ℕ = leading_monomial_at G i in
+      let b : List ℕ = leading_monomial_at G j in
       let la = lead_at_length i hi in
       let lb = lead_at_length j hj in
       let q : List ℕ = lcm a b in
@@ -138,15 +145,18 @@ module _ (ring : Ring) (G : List (List Term)) (pos : 0 < ring.modulus) (ok : Are
       record { summands = pair.summands; combination = pair.combination; below = pair.below; sum = alike_from_coefficients pos pair.sum } in
       let up = represented_multiple 1 common.factor q _ common.long (lcm_length a b (places ring) la lb) low in
       subst (λ k. IsRepresentedBelow ring G k (difference ring t (at i) s (at j))) common.multiple
-      (subst (λ f. IsRepresentedBelow ring G (product common.factor q) f) (difference_multiple ring common.factor (quotient q a) (at i) (quotient q b) (at j) ∙ cc (common.left, common.right)) up)
+      (subst (λ f. IsRepresentedBelow ring G (product common.factor q) f)
+      (difference_multiple ring common.factor (quotient q a) (at i) (quotient q b) (at j) ∙ cc (common.left, common.right)) up)
 
   -- the same from the pair in either order
-  pub either_represented : (i j : ℕ) (t s m : List ℕ) → i < length G → j < length G → HasLcmRepresentation ring G i j ⊎ HasLcmRepresentation ring G j i → length t ≡ places ring
+  pub either_represented : (i j : ℕ) (t s m : List ℕ) → i < length G → j < length G
+      → HasLcmRepresentation ring G i j ⊎ HasLcmRepresentation ring G j i → length t ≡ places ring
       → length s ≡ places ring
-      → product t (lead_at G i) ≡ m → product s (lead_at G j) ≡ m → IsRepresentedBelow ring G m (difference ring t (at i) s (at j))
+      → product t (leading_monomial_at G i) ≡ m → product s (leading_monomial_at G j) ≡ m → IsRepresentedBelow ring G m (difference ring t (at i) s (at j))
   either_represented i j t s m hi hj (inl pair) lt ls et es = pair_represented i j t s m hi hj pair lt ls et es
   either_represented i j t s m hi hj (inr pair) lt ls et es =
-      represented_scaled (ring.modulus - 1) (difference ring t (at i) s (at j)) (λ w. difference_back w ring t (at i) s (at j) pos) (pair_represented j i s t m hj hi pair ls lt es et)
+      represented_scaled (ring.modulus - 1) (difference ring t (at i) s (at j)) (λ w.
+      difference_back w ring t (at i) s (at j) pos) (pair_represented j i s t m hj hi pair ls lt es et)
 
   -- each pair of places has an lcm representation
   abbrev pub PairsRepresented : Type 0
@@ -154,13 +164,13 @@ module _ (ring : Ring) (G : List (List Term)) (pos : 0 < ring.modulus) (ok : Are
 
   -- the same for any two places, also where they are one
   pub places_represented : PairsRepresented → (i j : ℕ) (t s m : List ℕ) → i < length G → j < length G → length t ≡ places ring → length s ≡ places ring
-      → product t (lead_at G i) ≡ m → product s (lead_at G j) ≡ m → IsRepresentedBelow ring G m (difference ring t (at i) s (at j))
+      → product t (leading_monomial_at G i) ≡ m → product s (leading_monomial_at G j) ≡ m → IsRepresentedBelow ring G m (difference ring t (at i) s (at j))
   places_represented pairs i j t s m hi hj lt ls et es = by_places (cases_order i j)
     where
       by_places : (i ≡ j) ⊎ ((i < j) ⊎ (j < i)) → IsRepresentedBelow ring G m (difference ring t (at i) s (at j))
       by_places (inl e) =
-          let es' : product s (lead_at G i) ≡ m = rw (← e) at es in
-          let st : t ≡ s = same_factor (lead_at G i) t s (places ring) (lead_at_length i hi) lt ls (et ∙ sym es') in
+          let es' : product s (leading_monomial_at G i) ≡ m = rw (← e) at es in
+          let st : t ≡ s = same_factor (leading_monomial_at G i) t s (places ring) (lead_at_length i hi) lt ls (et ∙ sym es') in
           rw (← e, ← st) (represented_alike (difference_same ring t (at i) pos) (represented_zero ring G m))
       by_places (inr (inl l)) = pair_represented i j t s m hi hj (pairs i j l hj) lt ls et es
       by_places (inr (inr l)) = either_represented i j t s m hi hj (inr (pairs j i l hi)) lt ls et es
@@ -173,6 +183,8 @@ module _ (ring : Ring) (G : List (List Term)) (pos : 0 < ring.modulus) (ok : Are
       all_below_append ring m (multiple k.coefficient k.monomial (at k.place)) (combined G ks)
       (all_below_multiple ring m k.coefficient k.monomial (at k.place) h.0 (ok.canonical k.place h.1) b.0) (all_below_combined m ks h.2 b.1)
 
-  pub represented_zero_at : (m : List ℕ) (f : List Term) → IsRepresentedBelow ring G m f → total (only m) f % ring.modulus ≡ 0
+  pub represented_zero_at : (m : List ℕ) (f : List Term) → IsRepresentedBelow ring G m f → total (indicator m) f % ring.modulus ≡ 0
   represented_zero_at m f h =
-      h.sum.under (only m) ∙ (ap (λ n. n % ring.modulus) (all_below_zero ring m (combined G h.summands) (all_below_combined m h.summands h.combination h.below)) ∙ zero-mod ring.modulus)
+      h.sum.under (indicator m) ∙ (ap (λ n. n % ring.modulus)
+      (all_below_zero ring m (combined G h.summands) (all_below_combined m h.summands h.combination h.below))
+      ∙ zero-mod ring.modulus)

@@ -3,7 +3,7 @@ use Rattle.std.proofs.Common.{List, ◌↔◌}
 use Rattle.cgs_poly.specs.declared.ring.Ring.{Ring}
 use Rattle.cgs_poly.specs.Polynomial.{Term}
 use Rattle.cgs_algebra.specs.Groebner.{IsGroebnerBasis, IsMinimal, IsReduced}
-use Rattle.cgs_algebra.specs.Stability.{SameIdeal}
+use Rattle.cgs_algebra.specs.Combination.{SameIdeal}
 
 pub same_ideal_back : (ring : Ring) (F G : List (List Term)) → SameIdeal ring F G → SameIdeal ring G F
 same_ideal_back ring F G s = record { first = s.second; second = s.first }
@@ -12,7 +12,7 @@ pub same_ideal_trans : (ring : Ring) (F G H : List (List Term)) → SameIdeal ri
 same_ideal_trans ring F G H s t = record { first = λ f m. t.first f (s.first f m); second = λ f m. s.second f (t.second f m) }
 
 module _ (ring : Ring) (F H G : List (List Term)) (same : SameIdeal ring F H) where
-  pub groebner_of_same : IsGroebnerBasis ring G F → IsGroebnerBasis ring G H
+  groebner_of_same : IsGroebnerBasis ring G F → IsGroebnerBasis ring G H
   groebner_of_same h = record {
     canonical = h.canonical;
     members = λ i l. same.first _ (h.members i l);
@@ -23,7 +23,7 @@ module _ (ring : Ring) (F H G : List (List Term)) (same : SameIdeal ring F H) wh
   pub minimal_of_same : IsMinimal ring G F → IsMinimal ring G H
   minimal_of_same h = record { groebner = groebner_of_same h.groebner; apart = h.apart }
 
-  pub reduced_of_same : IsReduced ring G F → IsReduced ring G H
+  reduced_of_same : IsReduced ring G F → IsReduced ring G H
   reduced_of_same h = record { minimal = minimal_of_same h.minimal; monic = h.monic; reduced = h.reduced }
 
 pub same_ideal_bases : (ring : Ring) (F H G : List (List Term)) → SameIdeal ring F H

@@ -9,23 +9,23 @@ use Rattle.cgs_exps.specs.Monomial.{divides}
 use Rattle.cgs_exps.proofs.MonomialLemmas.{divides_trans, take_divides}
 use Rattle.cgs_poly.specs.declared.ring.Ring.{Ring}
 use Rattle.cgs_poly.specs.Polynomial.{Term, total, IsOfRing, IsCanonical, canonical}
-use Rattle.cgs_poly.specs.Product.{lead}
+use Rattle.cgs_poly.specs.Product.{leading_monomial}
 use Rattle.cgs_poly.specs.Parameters.{has_no_variables, HasNoVariables, lead_x, lc_x, value_at, variables_ring, specialised_terms, specialised}
 use Rattle.cgs_poly.proofs.SumLemmas.{Alike}
 use Rattle.cgs_poly.proofs.CanonicalLemmas.{canonical_of_ring, is_canonical, canonical_alike}
 use Rattle.cgs_algebra.specs.Combination.{IsMember}
-use Rattle.cgs_algebra.specs.Groebner.{AreMonic, IsGroebnerBasis, IsMinimal, SomeLeadDivides, lead_at}
+use Rattle.cgs_algebra.specs.Groebner.{AreMonic, IsGroebnerBasis, IsMinimal, SomeLeadDivides, leading_monomial_at}
 use Rattle.cgs_algebra.specs.Specialisation.{specialised_list, IsParametric, AllVanish, NoneVanishes}
 use Rattle.cgs_algebra.specs.Stability.{parametric_members, other_members, IsMinimalDicksonBasis}
 use Rattle.cgs_algebra.proofs.MemberLemmas.{same_member, generator_member}
-use Rattle.cgs_algebra.proofs.VariablesOrderLemmas.{variables_length}
-use Rattle.cgs_algebra.proofs.PointLemmas.{at_point, total_specialised, specialised_of_ring, get_specialised}
+use Rattle.cgs_algebra.proofs.PointLemmas.{total_specialised, get_specialised}
 use Rattle.cgs_algebra.proofs.SpecialLeadLemmas.{IsSpecialLead, special_lead_alike, lead_once, lead_of_form, form_not_zero, lead_by_coefficient}
 use Rattle.cgs_algebra.proofs.VanishingLemmas.{free_vanishes}
 use Rattle.cgs_algebra.proofs.StabilityLemmas.{IsCovered, stability}
 use Rattle.cgs_algebra.proofs.SpecialisedIdealLemmas.{specialised_member, lifted_member}
 use Rattle.cgs_algebra.proofs.SpecialisationLemmas.{of_ring_at}
 use Rattle.cgs_poly.proofs.ParameterLemmas.{tested_free, free_tested}
+use Rattle.cgs_poly.proofs.SpecialisedLemmas.{at_point, specialised_of_ring, variables_length}
 use Rattle.cgs_algebra.proofs.EliminationLemmas.{parametric_at, parametric_vanishes}
 use Rattle.cgs_algebra.proofs.DicksonLemmas.{dickson_found, dickson_divides}
 
@@ -42,9 +42,9 @@ module _ (ring : Ring) (a : List ℕ) (pos : 0 < ring.modulus) (f : List Term) (
   specialised_not_zero = form_not_zero ring a pos (lead_x ring f) (specialised ring a f) f same_total (lead_by_coefficient ring a pos f can some)
 
   -- the lead of what f becomes is the variables' part of its lead
-  pub specialised_lead : lead (specialised ring a f) ≡ lead_x ring f
+  pub specialised_lead : leading_monomial (specialised ring a f) ≡ lead_x ring f
   specialised_lead =
-      lead_once ring a pos (lead (specialised ring a f)) (lead_x ring f) f
+      lead_once ring a pos (leading_monomial (specialised ring a f)) (lead_x ring f) f
       (lead_of_form ring a pos (specialised ring a f) f specialised_canonical specialised_not_zero same_total) (lead_by_coefficient ring a pos f can some)
 
 pub leading_at : (ring : Ring) (a : List ℕ) (M : List (List Term)) → NoneVanishes ring a (map (lc_x ring) M) → (j : ℕ) → j < length M
@@ -64,13 +64,13 @@ module _ (ring : Ring) (a : List ℕ) (pos : 0 < ring.modulus) (F E G : List (Li
   e_ring : (i : ℕ) → i < length E → IsOfRing ring (get_or E i [])
   e_ring i h = canonical_of_ring ring (get_or E i []) (e_at i h).canonical
 
-  pub second_in : (i : ℕ) → i < length E → I (get_or E i [])
+  second_in : (i : ℕ) → i < length E → I (get_or E i [])
   second_in i h =
       let at_e : get_or (F ++ E) (length F + i) [] ≡ get_or E i [] = get_or-append-add F E i [] in
       let g = generator_member ring (F ++ E) pos (length F + i) (omega (arith, length-append F E)) (subst (λ f. IsOfRing ring f) (sym at_e) (e_ring i h)) in
       subst (λ f. I f) at_e g
 
-  pub second_vanishes : (i : ℕ) → i < length E → value_at ring a (get_or E i []) ≡ 0
+  second_vanishes : (i : ℕ) → i < length E → value_at ring a (get_or E i []) ≡ 0
   second_vanishes i h = parametric_vanishes ring a pos (F ++ E) G monic basis zeros (get_or E i []) (e_at i h) (second_in i h)
 
   second_zero : (i : ℕ) → i < length E → (w : List ℕ → ℕ) → total (at_point ring a w) (get_or E i []) % ring.modulus ≡ 0
@@ -116,7 +116,7 @@ module _ (ring : Ring) (a : List ℕ) (pos : 0 < ring.modulus) (F E G : List (Li
               divides_trans (lead_x ring (m_at j.0)) (lead_x ring (get_or G i [])) (take ring.variables m)
                   (lead_x_length (m_at j.0) (m_ok j.0 j.1) (m_some j.0 j.1) ∙ sym (lead_x_length (get_or G i []) (monic.canonical i h) (basis.not_zero i h)))
                   j.2
-                  (take_divides ring.variables (lead_at G i) m d),
+                  (take_divides ring.variables (leading_monomial_at G i) m d),
             ))
 
     found : (f : List Term) → IsCanonical ring f → I f → (x : List ℕ) → IsSpecialLead ring a pos x f
@@ -129,22 +129,23 @@ module _ (ring : Ring) (a : List ℕ) (pos : 0 < ring.modulus) (F E G : List (Li
     in_list : (i : ℕ) → i < length specials → i < length M
     in_list i h = omega (arith, length-map M (specialised ring a))
 
-    special_lead : (j : ℕ) → j < length M → lead_at specials j ≡ lead_x ring (m_at j)
-    special_lead j h = ap lead (get_specialised ring a M j) ∙ specialised_lead ring a pos (m_at j) (m_ok j h) (m_leading j h)
+    special_lead : (j : ℕ) → j < length M → leading_monomial_at specials j ≡ lead_x ring (m_at j)
+    special_lead j h = ap leading_monomial (get_specialised ring a M j) ∙ specialised_lead ring a pos (m_at j) (m_ok j h) (m_leading j h)
 
     -- what becomes f has a lead that some lead divides
     lifted_leads : (f : List Term) → IsCanonical (variables_ring ring) f → (f ≡ [] → ⊥) → (h : List Term) → IsOfRing ring h → I h
-        → ((w : List ℕ → ℕ) → total (at_point ring a w) h % ring.modulus ≡ total w f % ring.modulus) → SomeLeadDivides specials (lead f)
+        → ((w : List ℕ → ℕ) → total (at_point ring a w) h % ring.modulus ≡ total w f % ring.modulus) → SomeLeadDivides specials (leading_monomial f)
     lifted_leads f k some h of_ring inside e =
         let g : List Term = canonical ring h in
         let ga : Alike ring.modulus g h = canonical_alike ring h pos of_ring in
-        let s : IsSpecialLead ring a pos (lead f) h = lead_of_form ring a pos f h k some (λ w. sym (e w)) in
-        let sg : IsSpecialLead ring a pos (lead f) g = special_lead_alike ring a pos (lead f) h g (λ w. sym (ga.under (at_point ring a w))) s in
-        let j = found g (is_canonical ring h pos of_ring) (same_member ring (F ++ E) pos ga inside) (lead f) sg in
-        (j.0, omega (arith, length-map M (specialised ring a), j.1), subst (λ x. divides x (lead f) ≡ true) (sym (special_lead j.0 j.1)) j.2)
+        let s : IsSpecialLead ring a pos (leading_monomial f) h = lead_of_form ring a pos f h k some (λ w. sym (e w)) in
+        let sg : IsSpecialLead ring a pos (leading_monomial f) g =
+        special_lead_alike ring a pos (leading_monomial f) h g (λ w. sym (ga.under (at_point ring a w))) s in
+        let j = found g (is_canonical ring h pos of_ring) (same_member ring (F ++ E) pos ga inside) (leading_monomial f) sg in
+        (j.0, omega (arith, length-map M (specialised ring a), j.1), subst (λ x. divides x (leading_monomial f) ≡ true) (sym (special_lead j.0 j.1)) j.2)
 
     special_leads : (f : List Term) → IsCanonical (variables_ring ring) f → IsMember (variables_ring ring) (specialised_list ring a F) f → (f ≡ [] → ⊥)
-        → SomeLeadDivides specials (lead f)
+        → SomeLeadDivides specials (leading_monomial f)
     special_leads f k m some =
         let l = lifted_member ring a pos F E (of_ring_at ring F f_ok) e_ring second_zero f m in
         lifted_leads f k some l.0 l.1 l.2 l.3
@@ -157,14 +158,16 @@ module _ (ring : Ring) (a : List ℕ) (pos : 0 < ring.modulus) (F E G : List (Li
             let j = in_list i h in
             let k = specialised_canonical ring a pos (m_at i) (m_ok i j) (m_leading i j) in
             subst (λ f. IsCanonical (variables_ring ring) f) (sym (get_specialised ring a M i)) k;
-        members = λ i h. let j = in_list i h in subst (λ f. IsMember (variables_ring ring) (specialised_list ring a F) f) (sym (get_specialised ring a M i)) (specialised_member ring a pos F E (of_ring_at ring F f_ok) e_ring second_zero (m_at i) (canonical_of_ring ring (m_at i) (m_ok i j)) (m_in i j));
+        members = λ i h. let j = in_list i h in
+            subst (λ f. IsMember (variables_ring ring) (specialised_list ring a F) f) (sym (get_specialised ring a M i))
+            (specialised_member ring a pos F E (of_ring_at ring F f_ok) e_ring second_zero (m_at i) (canonical_of_ring ring (m_at i) (m_ok i j)) (m_in i j));
         not_zero = λ i h e. let j = in_list i h in specialised_not_zero ring a pos (m_at i) (m_ok i j) (m_leading i j) (sym (get_specialised ring a M i) ∙ e);
         leads = special_leads;
       };
       apart = λ i j hi hj n d.
           dickson.apart i j (in_list i hi) (in_list j hj) n
           (subst (λ x. divides x (lead_x ring (m_at j)) ≡ true) (special_lead i (in_list i hi))
-          (subst (λ y. divides (lead_at specials i) y ≡ true) (special_lead j (in_list j hj)) d));
+          (subst (λ y. divides (leading_monomial_at specials i) y ≡ true) (special_lead j (in_list j hj)) d));
     }
 
 -- the conditions vanish where the basis' members in the parameters alone do

@@ -1,5 +1,6 @@
 -- The ideal of the specialised polynomials: what the members of an ideal become, and members for each of its members.
-use Rattle.std.proofs.Common.{ℕ, suc, ◌≡◌, ◌+◌, ◌-◌, ◌*◌, ◌%◌, ◌<◌, ◌≤◌, ◌⊎◌, inl, inr, List, [], ◌∷◌, ◌++◌, length, get_or, map, take, drop, replicate, refl, sym, ap, ◌∙◌, arith}
+use Rattle.std.proofs.Common.{ℕ, suc, ◌≡◌, ◌+◌, ◌-◌, ◌*◌, ◌%◌, ◌<◌, ◌≤◌, ◌⊎◌, inl, inr, List, [], ◌∷◌, ◌++◌, length, get_or, map, take, drop, replicate, refl}
+use Rattle.std.proofs.Common.{sym, ap, ◌∙◌, arith}
 use Rattle.std.proofs.Math.Nat.{zero-mod, zero-add, add-zero, mul-zero, mul-one}
 use Rattle.std.proofs.lemmas.Bool.{cases_lt}
 use Rattle.std.proofs.lemmas.List.{length-append, length-replicate, take_at, drop_at, get_or_append_left, get_or-append_right}
@@ -12,10 +13,9 @@ use Rattle.cgs_poly.specs.Parameters.{power_at, variables_ring, specialised}
 use Rattle.cgs_poly.proofs.SumLemmas.{alike_same, alike_from_coefficients, coefficients_from_alike, total_append}
 use Rattle.cgs_poly.proofs.CanonicalLemmas.{append_of_ring}
 use Rattle.cgs_poly.proofs.ProductLemmas.{multiple_of_ring, total_multiple}
-use Rattle.cgs_poly.proofs.SpecialisedLemmas.{power_zeros}
+use Rattle.cgs_poly.proofs.SpecialisedLemmas.{power_zeros, at_point, total_at_multiple, variables_length}
 use Rattle.cgs_algebra.specs.Combination.{Summand, summand, combined, IsCombination, IsMember}
-use Rattle.cgs_algebra.proofs.VariablesOrderLemmas.{variables_length}
-use Rattle.cgs_algebra.proofs.PointLemmas.{at_point, total_specialised, multiple_at_point, get_specialised}
+use Rattle.cgs_algebra.proofs.PointLemmas.{total_specialised, get_specialised}
 
 module _ (ring : Ring) (a : List ℕ) (pos : 0 < ring.modulus) (F E : List (List Term))
     (f_ok : (i : ℕ) → i < length F → IsOfRing ring (get_or F i []))
@@ -57,7 +57,7 @@ module _ (ring : Ring) (a : List ℕ) (pos : 0 < ring.modulus) (F E : List (List
                 ≡ c * total (at_point ring a v) g + total (at_point ring a w) (combined (F ++ E) ks) =
                 rw at_f (total_append (at_point ring a w) (multiple k.coefficient k.monomial g) (combined (F ++ E) ks)
                 ∙ ap (λ n. n + total (at_point ring a w) (combined (F ++ E) ks))
-                (multiple_at_point ring a w k.coefficient k.monomial g l (f_ok k.place lt))) in
+                (total_at_multiple ring a w k.coefficient k.monomial g l (f_ok k.place lt))) in
                 let j : total w (multiple c t (get_or specs k.place []) ++ combined specs rest.summands)
                 ≡ c * total v (specialised ring a g) + total w (combined specs rest.summands) =
                 rw (get_specialised ring a F k.place) (total_append w (multiple c t (specialised ring a g)) (combined specs rest.summands)
@@ -80,7 +80,7 @@ module _ (ring : Ring) (a : List ℕ) (pos : 0 < ring.modulus) (F E : List (List
                 let i : total (at_point ring a w) (multiple k.coefficient k.monomial (get_or (F ++ E) k.place []) ++ combined (F ++ E) ks)
                 ≡ c * total (at_point ring a v) g + total (at_point ring a w) (combined (F ++ E) ks) =
                 rw at_e (total_append (at_point ring a w) (multiple k.coefficient k.monomial g) (combined (F ++ E) ks)
-                ∙ ap (λ n. n + total (at_point ring a w) (combined (F ++ E) ks)) (multiple_at_point ring a w k.coefficient k.monomial g l (e_ok e le))) in
+                ∙ ap (λ n. n + total (at_point ring a w) (combined (F ++ E) ks)) (total_at_multiple ring a w k.coefficient k.monomial g l (e_ok e le))) in
                 let z : (c * total (at_point ring a v) g) % ring.modulus ≡ 0 % ring.modulus =
                 mod_mul ring.modulus c c _ 0 refl (e_zero e le v ∙ sym (zero-mod ring.modulus)) ∙ ap (λ n. n % ring.modulus) (mul-zero c) in
                 let s = mod_add ring.modulus (c * total (at_point ring a v) g) 0 _ _ z (rest.value w) in
@@ -128,7 +128,7 @@ module _ (ring : Ring) (a : List ℕ) (pos : 0 < ring.modulus) (F E : List (List
                 let one : k.coefficient * power_at (drop ring.variables t) a ≡ k.coefficient = ap (λ n. k.coefficient * power_at n a) td
                 ∙ (ap (λ n. k.coefficient * n) (power_zeros ring.parameters a) ∙ mul-one k.coefficient) in
                 let m : total (at_point ring a w) (multiple k.coefficient t g) ≡ k.coefficient * total (at_point ring a v) g =
-                multiple_at_point ring a w k.coefficient t g tl (f_ok k.place lt)
+                total_at_multiple ring a w k.coefficient t g tl (f_ok k.place lt)
                 ∙ cc (one, ap (λ n. total (at_point ring a (λ q. w (product n q))) g) tx) in
                 let i : total (at_point ring a w) (multiple k.coefficient t (get_or (F ++ E) k.place []) ++ combined (F ++ E) rest.summands)
                 ≡ k.coefficient * total (at_point ring a v) g + total (at_point ring a w) (combined (F ++ E) rest.summands) =

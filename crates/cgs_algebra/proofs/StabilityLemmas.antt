@@ -10,16 +10,17 @@ use Rattle.cgs_exps.specs.Monomial.{divides}
 use Rattle.cgs_order.specs.TermOrder.{compared}
 use Rattle.cgs_order.proofs.OrderLemmas.{compared_induction}
 use Rattle.cgs_poly.specs.declared.ring.Ring.{Ring}
-use Rattle.cgs_poly.specs.Polynomial.{Term, term, places, order_of, total, only, IsOfRing, StartsBelow, IsCanonical, canonical}
-use Rattle.cgs_poly.specs.Product.{multiple, lead, lead_coefficient}
+use Rattle.cgs_poly.specs.Polynomial.{Term, term, places, order_of, total, indicator, IsOfRing, StartsBelow, IsCanonical, canonical}
+use Rattle.cgs_poly.specs.Product.{multiple, leading_monomial, leading_coefficient}
 use Rattle.cgs_poly.specs.Parameters.{lead_x, lc_x, value_at}
 use Rattle.cgs_poly.proofs.SumLemmas.{Alike}
 use Rattle.cgs_poly.proofs.CanonicalLemmas.{AllBelow, canonical_of_ring, is_canonical, canonical_alike, canonical_starts}
+use Rattle.cgs_poly.proofs.SpecialisedLemmas.{at_point}
 use Rattle.cgs_algebra.specs.Combination.{IsMember}
-use Rattle.cgs_algebra.specs.Groebner.{AreMonic, IsGroebnerBasis, lead_at}
+use Rattle.cgs_algebra.specs.Groebner.{AreMonic, IsGroebnerBasis, leading_monomial_at}
 use Rattle.cgs_algebra.proofs.MemberLemmas.{same_member, sum_member, multiple_member}
 use Rattle.cgs_algebra.proofs.FieldLemmas.{IsOpposite, opposite_of_one}
-use Rattle.cgs_algebra.proofs.PointLemmas.{at_point, power_weight}
+use Rattle.cgs_algebra.proofs.PointLemmas.{power_weight}
 use Rattle.cgs_algebra.proofs.ReductionLemmas.{cofactor, cofactor_length, remainder, remainder_of_ring, remainder_below, remainder_alike}
 use Rattle.cgs_algebra.proofs.CrossLemmas.{crossed, crossed_of_ring, crossed_below, crossed_special, crossed_member}
 use Rattle.cgs_algebra.proofs.SpecialLeadLemmas.{IsSpecialLead, special_lead_alike, special_lead_scaled, lead_once, lead_by_value}
@@ -30,12 +31,12 @@ module _ (ring : Ring) (a : List ℕ) (pos : 0 < ring.modulus) (field : IsField 
     (m_ok : (j : ℕ) → j < length M → IsCanonical ring (get_or M j [])) (m_in : (j : ℕ) → j < length M → IsMember ring B (get_or M j []))
     (leading : (j : ℕ) → j < length M → ¬ (value_at ring a (lc_x ring (get_or M j [])) ≡ 0)) where
   -- the variables' part of the lead of a member of M divides x
-  abbrev pub Found : List ℕ → Type 0
+  abbrev Found : List ℕ → Type 0
   Found x = (j : ℕ) × (j < length M) × (divides (lead_x ring (get_or M j [])) x ≡ true)
 
   -- a member of G is 0 at the point, or what its lead divides is divided in the variables by a lead of M
   abbrev pub IsCovered : ℕ → Type 0
-  IsCovered i = Vanishes ring a pos (get_or G i []) ⊎ ((m : List ℕ) → divides (lead_at G i) m ≡ true → Found (take ring.variables m))
+  IsCovered i = Vanishes ring a pos (get_or G i []) ⊎ ((m : List ℕ) → divides (leading_monomial_at G i) m ≡ true → Found (take ring.variables m))
 
   abbrev Claim : List ℕ → Type 0
   Claim m = (c : ℕ) (f : List Term) → IsCanonical ring (term c m ∷ f) → IsMember ring B (term c m ∷ f) → (x : List ℕ)
@@ -51,7 +52,7 @@ module _ (ring : Ring) (a : List ℕ) (pos : 0 < ring.modulus) (field : IsField 
       by_form (canonical ring f) (is_canonical ring f pos of_ring) (canonical_starts ring m f pos of_ring below) (canonical_alike ring f pos of_ring)
     where
       by_form : (g : List Term) → IsCanonical ring g → StartsBelow ring m g → Alike ring.modulus g f → Found x
-      by_form [] k s e = absurd (h.there (sym (e.under (at_point ring a (only x))) ∙ zero-mod ring.modulus))
+      by_form [] k s e = absurd (h.there (sym (e.under (at_point ring a (indicator x))) ∙ zero-mod ring.modulus))
       by_form (y ∷ g) k s e =
           lower y.exponents k.2 s y.coefficient g k (same_member ring B pos e inside) x
           (special_lead_alike ring a pos x f (y ∷ g) (λ w. sym (e.under (at_point ring a w))) h)
@@ -63,7 +64,8 @@ module _ (ring : Ring) (a : List ℕ) (pos : 0 < ring.modulus) (field : IsField 
     whole = term c m ∷ f
 
     -- first case: the lead is divided by that of a member that comes to 0, of which a multiple is taken away
-    by_vanishing : (g : List Term) → IsCanonical ring g → lead_coefficient g ≡ 1 → IsMember ring B g → divides (lead g) m ≡ true → Vanishes ring a pos g
+    by_vanishing : (g : List Term) → IsCanonical ring g → leading_coefficient g ≡ 1 → IsMember ring B g → divides (leading_monomial g) m ≡ true
+        → Vanishes ring a pos g
         → Found x
     by_vanishing [] k o ig d v = absurd (omega arith)
     by_vanishing (z ∷ g) k o ig d v =
@@ -107,7 +109,7 @@ module _ (ring : Ring) (a : List ℕ) (pos : 0 < ring.modulus) (field : IsField 
         let i = basis.leads (term c m ∷ f) poly inside (λ e. cc) in
         by_cover i.0 i.1 i.2 (covered i.0 i.1)
       where
-        by_cover : (i : ℕ) → i < length G → divides (lead_at G i) m ≡ true → IsCovered i → Found x
+        by_cover : (i : ℕ) → i < length G → divides (leading_monomial_at G i) m ≡ true → IsCovered i → Found x
         by_cover i hi d (inl v) =
             by_vanishing m lower c f poly inside x h (get_or G i []) (monic.canonical i hi) (monic.monic i hi) (basis.members i hi) d v
         by_cover i hi d (inr q) = by_test (eqb value 0) refl (q m d)

@@ -14,9 +14,10 @@ use Rattle.cgs_poly.specs.Parameters.{HasNoVariables, power_at, variables_ring, 
 use Rattle.cgs_poly.proofs.SumLemmas.{total_append}
 use Rattle.cgs_poly.proofs.MultipleLemmas.{total_factor}
 use Rattle.cgs_poly.proofs.ProductOrderLemmas.{compared_grown}
+use Rattle.cgs_poly.proofs.SpecialisedLemmas.{at_point, total_at_multiple, variables_length}
 use Rattle.cgs_algebra.proofs.WeightLemmas.{Each, total_same}
-use Rattle.cgs_algebra.proofs.VariablesOrderLemmas.{variables_length, variables_from_below}
-use Rattle.cgs_algebra.proofs.PointLemmas.{at_point, multiple_at_point, power_weight}
+use Rattle.cgs_algebra.proofs.VariablesOrderLemmas.{variables_from_below}
+use Rattle.cgs_algebra.proofs.PointLemmas.{power_weight}
 
 module _ (ring : Ring) (a : List ℕ) (pos : 0 < ring.modulus) where
   -- f comes to 0 at the point
@@ -27,7 +28,7 @@ module _ (ring : Ring) (a : List ℕ) (pos : 0 < ring.modulus) where
   pub multiple_vanishes : (c : ℕ) (t : List ℕ) (f : List Term) → length t ≡ places ring → IsOfRing ring f → Vanishes f → Vanishes (multiple c t f)
   multiple_vanishes c t f l h v = λ w.
       let d : ℕ = c * power_at (drop ring.variables t) a in
-      ap (λ n. n % ring.modulus) (multiple_at_point ring a w c t f l h)
+      ap (λ n. n % ring.modulus) (total_at_multiple ring a w c t f l h)
       ∙ (mod_mul ring.modulus d d _ 0 refl (v (λ n. w (product (take ring.variables t) n)) ∙ sym (zero-mod ring.modulus))
       ∙ (ap (λ n. n % ring.modulus) (mul-zero d) ∙ zero-mod ring.modulus))
 

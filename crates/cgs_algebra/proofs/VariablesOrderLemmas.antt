@@ -1,6 +1,6 @@
 -- Monomials compared by their variables alone.
 use Rattle.std.proofs.Common.{ℕ, ◌≡◌, ◌⊎◌, inl, inr, List, [], ◌∷◌, ◌++◌, length, take, drop, refl, sym, ap, ◌∙◌, arith}
-use Rattle.std.proofs.lemmas.List.{length-take, length-drop, take_all, drop_all}
+use Rattle.std.proofs.lemmas.List.{take_all, drop_all}
 use Rattle.std.specs.declared.cmp.Ordering.{Ordering}
 use Rattle.std.specs.declared.cmp.Ordering.TheVariants.{Less, Equal, Greater}
 use Rattle.std.specs.Ordering.{nat_cmp, ordering_then}
@@ -10,6 +10,7 @@ use Rattle.cgs_order.proofs.OrderLemmas.{cmp_self, block_length, compared_equal}
 use Rattle.cgs_poly.specs.declared.ring.Ring.{Ring}
 use Rattle.cgs_poly.specs.Polynomial.{places, order_of}
 use Rattle.cgs_poly.specs.Parameters.{variables_ring}
+use Rattle.cgs_poly.proofs.SpecialisedLemmas.{variables_length}
 
 cmp_append : (a b c d : List ℕ) → length a ≡ length c → slice_cmp nat_cmp (a ++ b) (c ++ d) ≡ ordering_then (slice_cmp nat_cmp a c) (slice_cmp nat_cmp b d)
 cmp_append [] b [] d p = refl
@@ -24,12 +25,6 @@ cmp_append (x ∷ xs) b (z ∷ zs) d p = rw (cmp_append xs b zs d (omega arith))
     then_assoc Greater = refl
 
 module _ (ring : Ring) where
-  pub variables_length : (m : List ℕ) → length m ≡ places ring → length (take ring.variables m) ≡ ring.variables
-  variables_length m l = omega (arith, length-take ring.variables m)
-
-  pub parameters_length : (m : List ℕ) → length m ≡ places ring → length (drop ring.variables m) ≡ ring.parameters
-  parameters_length m l = omega (arith, length-drop ring.variables m)
-
   -- how the variables' parts and the parameters' parts compare
   abbrev block_compared : List ℕ → List ℕ → Ordering
   block_compared x y = slice_cmp nat_cmp (block_key ring.kind x) (block_key ring.kind y)
@@ -40,7 +35,7 @@ module _ (ring : Ring) where
   unfolding compared key
   compared_blocks m n l k = cmp_append (block_key ring.kind (take ring.variables m)) (block_key ring.kind (drop ring.variables m))
       (block_key ring.kind (take ring.variables n)) (block_key ring.kind (drop ring.variables n))
-      (block_length ring.kind (take ring.variables m) (take ring.variables n) (variables_length m l ∙ sym (variables_length n k)))
+      (block_length ring.kind (take ring.variables m) (take ring.variables n) (variables_length ring m l ∙ sym (variables_length ring n k)))
 
   variables_blocks : (x y : List ℕ) → length x ≡ ring.variables → length y ≡ ring.variables → compared (order_of (variables_ring ring)) x y ≡ block_compared x y
   unfolding compared key
@@ -63,7 +58,7 @@ module _ (ring : Ring) where
       → compared (order_of (variables_ring ring)) (take ring.variables m) (take ring.variables n) ≡ Less → compared (order_of ring) m n ≡ Less
   below_from_variables m n l k e =
       let b : block_compared (take ring.variables m) (take ring.variables n)
-      ≡ Less = sym (variables_blocks (take ring.variables m) (take ring.variables n) (variables_length m l) (variables_length n k)) ∙ e in
+      ≡ Less = sym (variables_blocks (take ring.variables m) (take ring.variables n) (variables_length ring m l) (variables_length ring n k)) ∙ e in
       compared_blocks m n l k ∙ ap (λ o. ordering_then o (block_compared (drop ring.variables m) (drop ring.variables n))) b
 
   -- less is no greater in the variables
@@ -76,10 +71,10 @@ module _ (ring : Ring) where
           ⊎ (take ring.variables m ≡ take ring.variables n)
       by_block Less q = inl q
       by_block Equal q = inr (compared_equal (order_of (variables_ring ring)) (take ring.variables m) (take ring.variables n)
-          (variables_length m l ∙ sym (variables_length n k)) q)
+          (variables_length ring m l ∙ sym (variables_length ring n k)) q)
       by_block Greater q =
           let b : block_compared (take ring.variables m) (take ring.variables n)
-          ≡ Greater = sym (variables_blocks (take ring.variables m) (take ring.variables n) (variables_length m l) (variables_length n k)) ∙ q in
+          ≡ Greater = sym (variables_blocks (take ring.variables m) (take ring.variables n) (variables_length ring m l) (variables_length ring n k)) ∙ q in
           let g : compared (order_of ring) m n ≡ Greater = compared_blocks m n l k
           ∙ ap (λ o. ordering_then o (block_compared (drop ring.variables m) (drop ring.variables n))) b in
           absurd (cc)

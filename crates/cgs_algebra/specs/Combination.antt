@@ -28,3 +28,8 @@ pub record IsMember (ring : Ring) (F : List (List Term)) (f : List Term) : Type 
   pub summands : List Summand
   pub combination : IsCombination ring F summands
   pub sum : SameCoefficients ring.modulus f (combined F summands)
+
+-- two lists generate one ideal
+pub record SameIdeal (ring : Ring) (F G : List (List Term)) : Type 0 where
+  pub first : (f : List Term) → IsMember ring F f → IsMember ring G f
+  pub second : (f : List Term) → IsMember ring G f → IsMember ring F f

@@ -5,33 +5,33 @@ use Rattle.cgs_exps.specs.Monomial.{divides}
 use Rattle.cgs_order.specs.TermOrder.{compared}
 use Rattle.cgs_poly.specs.declared.ring.Ring.{Ring}
 use Rattle.cgs_poly.specs.Polynomial.{Term, order_of, IsCanonical}
-use Rattle.cgs_poly.specs.Product.{lead, lead_coefficient}
+use Rattle.cgs_poly.specs.Product.{leading_monomial, leading_coefficient}
 use Rattle.cgs_algebra.specs.Combination.{IsMember}
 
 -- the lead of the polynomial at a place of a list
-abbrev pub lead_at : List (List Term) → ℕ → List ℕ
-lead_at G i = lead (slice_index_or G i [])
+abbrev pub leading_monomial_at : List (List Term) → ℕ → List ℕ
+leading_monomial_at G i = leading_monomial (slice_index_or G i [])
 
 -- the lead of a member of G divides m
 abbrev pub SomeLeadDivides : List (List Term) → List ℕ → Type 0
-SomeLeadDivides G m = (i : ℕ) × (i < length G) × IsTrue (divides (lead_at G i) m)
+SomeLeadDivides G m = (i : ℕ) × (i < length G) × IsTrue (divides (leading_monomial_at G i) m)
 
 -- G is a Gröbner basis of the ideal of F: polynomials of that ideal, none of them 0, such that each lead in the ideal is divided by one of theirs
 pub record IsGroebnerBasis (ring : Ring) (G F : List (List Term)) : Type 0 where
   pub canonical : (i : ℕ) → i < length G → IsCanonical ring (slice_index_or G i [])
   pub members : (i : ℕ) → i < length G → IsMember ring F (slice_index_or G i [])
   pub not_zero : (i : ℕ) → i < length G → ¬ (slice_index_or G i [] ≡ [])
-  pub leads : (f : List Term) → IsCanonical ring f → IsMember ring F f → ¬ (f ≡ []) → SomeLeadDivides G (lead f)
+  pub leads : (f : List Term) → IsCanonical ring f → IsMember ring F f → ¬ (f ≡ []) → SomeLeadDivides G (leading_monomial f)
 
 -- polynomials of the ring with the leading coefficient 1
 pub record AreMonic (ring : Ring) (G : List (List Term)) : Type 0 where
   pub canonical : (i : ℕ) → i < length G → IsCanonical ring (slice_index_or G i [])
-  pub monic : (i : ℕ) → i < length G → lead_coefficient (slice_index_or G i []) ≡ 1
+  pub monic : (i : ℕ) → i < length G → leading_coefficient (slice_index_or G i []) ≡ 1
 
 -- no lead divides the lead at another place
 pub record IsMinimal (ring : Ring) (G F : List (List Term)) : Type 0 where
   pub groebner : IsGroebnerBasis ring G F
-  pub apart : (i j : ℕ) → i < length G → j < length G → ¬ (i ≡ j) → ¬ IsTrue (divides (lead_at G i) (lead_at G j))
+  pub apart : (i j : ℕ) → i < length G → j < length G → ¬ (i ≡ j) → ¬ IsTrue (divides (leading_monomial_at G i) (leading_monomial_at G j))
 
 -- m divides no monomial of f
 abbrev pub DividesNone : List ℕ → List Term → Type 0
@@ -42,10 +42,10 @@ DividesNone m (x ∷ f) = ¬ IsTrue (divides m x.exponents) × DividesNone m f
 pub record IsReduced (ring : Ring) (G F : List (List Term)) : Type 0 where
   pub minimal : IsMinimal ring G F
   pub monic : AreMonic ring G
-  pub reduced : (i j : ℕ) → i < length G → j < length G → ¬ (i ≡ j) → DividesNone (lead_at G i) (slice_index_or G j [])
+  pub reduced : (i j : ℕ) → i < length G → j < length G → ¬ (i ≡ j) → DividesNone (leading_monomial_at G i) (slice_index_or G j [])
 
 -- the leads strictly ascend
 abbrev pub IsAscending : Ring → List (List Term) → Type 0
 IsAscending ring [] = Unit {0}
 IsAscending ring (f ∷ []) = Unit {0}
-IsAscending ring (f ∷ g ∷ G) = (compared (order_of ring) (lead f) (lead g) ≡ Less) × IsAscending ring (g ∷ G)
+IsAscending ring (f ∷ g ∷ G) = (compared (order_of ring) (leading_monomial f) (leading_monomial g) ≡ Less) × IsAscending ring (g ∷ G)

@@ -3,11 +3,10 @@ use Rattle.std.specs.Prelude.{ℕ, ◌≡◌, ◌<◌, ◌↔◌, ◌⊎◌, Lis
 use Rattle.cgs_exps.specs.Monomial.{divides, coprime}
 use Rattle.cgs_poly.specs.declared.ring.Ring.{Ring}
 use Rattle.cgs_poly.specs.Polynomial.{Term, places, IsOfRing, StartsBelow, IsCanonical, canonical, one}
-use Rattle.cgs_poly.specs.Product.{multiple, all_products, lead_coefficient}
-use Rattle.cgs_algebra.specs.Combination.{IsMember}
-use Rattle.cgs_algebra.specs.Groebner.{AreMonic, IsGroebnerBasis, IsMinimal, IsReduced, IsAscending, lead_at}
+use Rattle.cgs_poly.specs.Product.{multiple, all_products, leading_coefficient}
+use Rattle.cgs_algebra.specs.Combination.{IsMember, SameIdeal}
+use Rattle.cgs_algebra.specs.Groebner.{AreMonic, IsGroebnerBasis, IsMinimal, IsReduced, IsAscending, leading_monomial_at}
 use Rattle.cgs_algebra.specs.SPolynomial.{HasLcmRepresentation, pair_lcm, s_terms}
-use Rattle.cgs_algebra.specs.Stability.{SameIdeal}
 
 -- a sum of members is a member
 abbrev pub SumIsMember : Type 0
@@ -49,7 +48,7 @@ MoreMembersKeepRepresentations =
 -- the S-polynomial of two monic polynomials starts below the lcm of their leads
 abbrev pub SPolynomialStartsBelow : Type 0
 SPolynomialStartsBelow =
-    (ring : Ring) (f g : List Term) → 0 < ring.modulus → IsCanonical ring f → IsCanonical ring g → lead_coefficient f ≡ 1 → lead_coefficient g ≡ 1
+    (ring : Ring) (f g : List Term) → 0 < ring.modulus → IsCanonical ring f → IsCanonical ring g → leading_coefficient f ≡ 1 → leading_coefficient g ≡ 1
     → StartsBelow ring (pair_lcm f g) (canonical ring (s_terms ring f g))
 
 -- Buchberger's criterion, for monic lists
@@ -89,12 +88,12 @@ OneIsReduced = (ring : Ring) (F : List (List Term)) → 1 < ring.modulus → IsM
 abbrev pub CoprimeCriterion : Type 0
 CoprimeCriterion =
     (ring : Ring) (G : List (List Term)) (i j : ℕ) → 0 < ring.modulus → AreMonic ring G → i < length G → j < length G
-    → IsTrue (coprime (lead_at G i) (lead_at G j)) → HasLcmRepresentation ring G i j
+    → IsTrue (coprime (leading_monomial_at G i) (leading_monomial_at G j)) → HasLcmRepresentation ring G i j
 
 -- the pair of two members of a monic list where the lead of a third divides the lcm
 abbrev pub ChainCriterion : Type 0
 ChainCriterion =
     (ring : Ring) (G : List (List Term)) (i j k : ℕ) → 0 < ring.modulus → AreMonic ring G → i < length G → j < length G → k < length G
-    → IsTrue (divides (lead_at G k) (pair_lcm (slice_index_or G i []) (slice_index_or G j [])))
+    → IsTrue (divides (leading_monomial_at G k) (pair_lcm (slice_index_or G i []) (slice_index_or G j [])))
     → (HasLcmRepresentation ring G i k ⊎ HasLcmRepresentation ring G k i)
     → (HasLcmRepresentation ring G k j ⊎ HasLcmRepresentation ring G j k) → HasLcmRepresentation ring G i j

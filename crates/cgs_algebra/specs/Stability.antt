@@ -6,7 +6,7 @@ use Rattle.cgs_exps.specs.Monomial.{divides}
 use Rattle.cgs_poly.specs.declared.ring.Ring.{Ring}
 use Rattle.cgs_poly.specs.Polynomial.{Term, IsCanonical}
 use Rattle.cgs_poly.specs.Parameters.{has_no_variables, lead_x, lc_x, value_at, variables_ring}
-use Rattle.cgs_algebra.specs.Combination.{IsMember}
+use Rattle.cgs_algebra.specs.Combination.{IsMember, SameIdeal}
 use Rattle.cgs_algebra.specs.Groebner.{AreMonic, IsGroebnerBasis, IsMinimal}
 use Rattle.cgs_algebra.specs.Specialisation.{specialised_list, IsParametric, AllVanish, NoneVanishes}
 
@@ -26,11 +26,6 @@ pub record IsMinimalDicksonBasis (ring : Ring) (M K : List (List Term)) : Type 0
   pub divided : (i : ℕ) → i < length K → (j : ℕ) × (j < length M) × IsTrue (divides (lead_x ring (slice_index_or M j [])) (lead_x ring (slice_index_or K i [])))
   pub apart : (i j : ℕ) → i < length M → j < length M → ¬ (i ≡ j)
       → ¬ IsTrue (divides (lead_x ring (slice_index_or M i [])) (lead_x ring (slice_index_or M j [])))
-
--- two lists generate one ideal
-pub record SameIdeal (ring : Ring) (F G : List (List Term)) : Type 0 where
-  pub first : (f : List Term) → IsMember ring F f → IsMember ring G f
-  pub second : (f : List Term) → IsMember ring G f → IsMember ring F f
 
 -- a Gröbner basis generates the ideal
 abbrev pub GroebnerGenerates : Type 0

@@ -16,7 +16,8 @@ pub record FollowedBy (run : ListRun) (next : List (List Term) → ℕ → ListR
   pub first : run ≡ done members units
   pub second : next members units ≡ done R left
 
-pub followed : (run : ListRun) (next : List (List Term) → ℕ → ListRun) (R : List (List Term)) (left : ℕ) → after_list run next ≡ done R left → FollowedBy run next R left
+pub followed : (run : ListRun) (next : List (List Term) → ℕ → ListRun) (R : List (List Term)) (left : ℕ)
+    → after_list run next ≡ done R left → FollowedBy run next R left
 followed (done G u) next R left e = record { members = G; units = u; first = refl; second = e }
 followed (out_of_budget u) next R left e = absurd (cc)
 followed (out_of_degree u) next R left e = absurd (cc)
@@ -31,9 +32,11 @@ basis_reduced ring F R units left r can e =
 
 -- a run in two parts
 
-pub basis_stops : (ring : Ring) (F : List (List Term)) (units : ℕ) (run : ListRun) → completion ring F units ≡ run → basis_run ring F units ≡ after_list run (λ G left. autoreduction ring G left)
+pub basis_stops : (ring : Ring) (F : List (List Term)) (units : ℕ) (run : ListRun) → completion ring F units ≡ run
+    → basis_run ring F units ≡ after_list run (λ G left. autoreduction ring G left)
 unfolding basis_run
 basis_stops ring F units run e = ap (λ r. after_list r (λ G left. autoreduction ring G left)) e
 
-pub basis_after : (ring : Ring) (F G : List (List Term)) (units left : ℕ) (run : ListRun) → completion ring F units ≡ done G left → autoreduction ring G left ≡ run → basis_run ring F units ≡ run
+pub basis_after : (ring : Ring) (F G : List (List Term)) (units left : ℕ) (run : ListRun)
+    → completion ring F units ≡ done G left → autoreduction ring G left ≡ run → basis_run ring F units ≡ run
 basis_after ring F G units left run e a = basis_stops ring F units (done G left) e ∙ a

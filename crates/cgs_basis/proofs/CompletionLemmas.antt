@@ -4,7 +4,7 @@ use Rattle.cgs_exps.specs.Monomial.{quotient}
 use Rattle.cgs_exps.proofs.MonomialLemmas.{quotient_length, lcm_length}
 use Rattle.cgs_poly.specs.declared.ring.Ring.{Ring}
 use Rattle.cgs_poly.specs.Polynomial.{Term, places, order_of, IsRing, IsOfRing, IsCanonical, canonical}
-use Rattle.cgs_poly.specs.Product.{multiple, lead, lead_coefficient}
+use Rattle.cgs_poly.specs.Product.{multiple, leading_monomial, leading_coefficient}
 use Rattle.cgs_poly.proofs.RingLemmas.{ring_positive}
 use Rattle.cgs_poly.proofs.CanonicalLemmas.{canonical_of_ring}
 use Rattle.cgs_algebra.specs.Combination.{IsMember}
@@ -25,7 +25,8 @@ use Rattle.cgs_divide.proofs.MonicLemmas.{monic_canonical, monic_one, monic_scal
 use Rattle.cgs_divide.proofs.AutoreductionRunLemmas.{went_on}
 use Rattle.cgs_pairs.specs.declared.pair.Pair.{Pair}
 use Rattle.cgs_pairs.specs.PairOrder.{IsWaiting}
-use Rattle.cgs_basis.specs.BasisRun.{Completion, with_pairs, appended, with_generator, with_generators, with_remainder, pair_terms, completed_in, start, completion}
+use Rattle.cgs_basis.specs.BasisRun.{Completion, with_pairs, appended, with_generator, with_generators, with_remainder, pair_terms, completed_in, start}
+use Rattle.cgs_basis.specs.BasisRun.{completion}
 use Rattle.cgs_poly.proofs.SameLemmas.{among_place}
 use Rattle.cgs_algebra.proofs.GrowthLemmas.{member_more, last_member}
 use Rattle.cgs_basis.proofs.RepresentedLemmas.{pair_polynomial, pair_canonical, pair_alike, represented_by_division, represented_with_remainder}
@@ -54,7 +55,7 @@ module _ (ring : Ring) (r : IsRing ring) (F : List (List Term)) (can : (i : ℕ)
   monic_inside : (x : Term) (f : List Term) → IsCanonical ring (x ∷ f) → IsMember ring F (x ∷ f) → IsMember ring F (monic_of ring (x ∷ f))
   monic_inside x f h m = scaled_member ring F pos (inverse ring.modulus x.coefficient) (x ∷ f) (monic_of ring (x ∷ f)) (monic_scaled ring r x f h) m
 
-  appended_good : (s : Completion) (g : List Term) → IsGood s → IsCanonical ring g → lead_coefficient g ≡ 1 → IsMember ring F g → IsGood (appended ring s g)
+  appended_good : (s : Completion) (g : List Term) → IsGood s → IsCanonical ring g → leading_coefficient g ≡ 1 → IsMember ring F g → IsGood (appended ring s g)
   appended_good s g h k one m = record {
     sound = appended_sound ring F s.members g s.pairs h.sound k one m;
     settled = appended_settled ring F s.members g s.pairs (with_pairs (order_of ring) g (length s.members) 0 s.members s.pairs) h.settled
@@ -88,7 +89,12 @@ module _ (ring : Ring) (r : IsRing ring) (F : List (List Term)) (can : (i : ℕ)
       by_test : (b : Bool) → is_among (monic_of ring (x ∷ f)) s.members ≡ b → Holds s (cond b s (appended ring s (monic_of ring (x ∷ f)))) (x ∷ f)
       by_test true e =
           let i = among_place (monic_of ring (x ∷ f)) s.members e in
-          record { good = h; here = back s.members (subst (λ q. IsMember ring s.members q) i.2 (monic_member ring s.members pos h.sound.monic i.0 i.1)); before = λ g i. i }
+          record {
+            good = h;
+            here =
+                back s.members (subst (λ q. IsMember ring s.members q) i.2 (monic_member ring s.members pos h.sound.monic i.0 i.1));
+            before = λ g i. i;
+          }
       by_test false e = record {
         good = new;
         here = back (s.members ++ monic_of ring (x ∷ f) ∷ []) (last_member ring s.members (monic_of ring (x ∷ f)) pos g_ring);
@@ -101,7 +107,8 @@ module _ (ring : Ring) (r : IsRing ring) (F : List (List Term)) (can : (i : ℕ)
     here : (i : ℕ) → i < length H → IsMember ring t.members (get_or H i [])
     before : (g : List Term) → IsMember ring s.members g → IsMember ring t.members g
 
-  generators_held : (H : List (List Term)) (s : Completion) → IsGood s → ((i : ℕ) → i < length H → IsCanonical ring (get_or H i [])) → ((i : ℕ) → i < length H → IsMember ring F (get_or H i []))
+  generators_held : (H : List (List Term)) (s : Completion) → IsGood s → ((i : ℕ) → i < length H → IsCanonical ring (get_or H i []))
+      → ((i : ℕ) → i < length H → IsMember ring F (get_or H i []))
       → HoldAll s (with_generators ring s H) H
   generators_held [] s h k m = record { good = h; here = λ i l. absurd (omega arith); before = λ g i. i }
   generators_held (f ∷ H) s h k m =
@@ -110,7 +117,8 @@ module _ (ring : Ring) (r : IsRing ring) (F : List (List Term)) (can : (i : ℕ)
       record { good = b.good; here = λ i l. by_place i l (b.before f a.here) b.here; before = λ g i. b.before g (a.before g i) }
     where
       by_place : (i : ℕ) → i < suc (length H) → IsMember ring (with_generators ring (with_generator ring s f) H).members f
-          → ((j : ℕ) → j < length H → IsMember ring (with_generators ring (with_generator ring s f) H).members (get_or H j [])) → IsMember ring (with_generators ring (with_generator ring s f) H).members (get_or (f ∷ H) i [])
+          → ((j : ℕ) → j < length H → IsMember ring (with_generators ring (with_generator ring s f) H).members (get_or H j []))
+          → IsMember ring (with_generators ring (with_generator ring s f) H).members (get_or (f ∷ H) i [])
       by_place zero l first rest = first
       by_place (suc i) l first rest = rest i (omega arith)
 
@@ -118,7 +126,12 @@ module _ (ring : Ring) (r : IsRing ring) (F : List (List Term)) (can : (i : ℕ)
   started =
       generators_held F (record { members = []; pairs = [] })
       (record {
-        sound = record { monic = record { canonical = λ i l. absurd (omega arith); monic = λ i l. absurd (omega arith) }; inside = λ i l. absurd (omega arith); known = λ q w. absurd w };
+        sound = record {
+          monic = record { canonical = λ i l. absurd (omega arith); monic = λ i l. absurd (omega arith) };
+          inside =
+              λ i l. absurd (omega arith);
+          known = λ q w. absurd w;
+        };
         settled = record { at = λ i j l k. absurd (omega arith) };
       }) can (λ i l. generator_member ring F pos i l (canonical_of_ring ring (get_or F i []) (can i l)))
 
@@ -141,30 +154,36 @@ module _ (ring : Ring) (r : IsRing ring) (F : List (List Term)) (can : (i : ℕ)
         let m : List ℕ = pair_lcm f g in
         let lf = lead_at_length ring G pos h.sound.monic q.smaller within_smaller in
         let lg = lead_at_length ring G pos h.sound.monic q.larger within in
-        let lm : length m ≡ places ring = lcm_length (lead f) (lead g) (places ring) lf lg in
+        let lm : length m ≡ places ring = lcm_length (leading_monomial f) (leading_monomial g) (places ring) lf lg in
         same_member ring F pos (pair_alike ring r G h.sound.monic q.smaller q.larger within_smaller within)
-        (sum_member ring F pos (multiple 1 (quotient m (lead f)) f) (multiple (ring.modulus - 1) (quotient m (lead g)) g)
-        (multiple_member ring F pos 1 (quotient m (lead f)) f (quotient_length m (lead f) (places ring) lm lf) (h.sound.inside q.smaller within_smaller))
-        (multiple_member ring F pos (ring.modulus - 1) (quotient m (lead g)) g (quotient_length m (lead g) (places ring) lm lg) (h.sound.inside q.larger within)))
+        (sum_member ring F pos (multiple 1 (quotient m (leading_monomial f)) f) (multiple (ring.modulus - 1) (quotient m (leading_monomial g)) g)
+        (multiple_member ring F pos 1 (quotient m (leading_monomial f)) f (quotient_length m (leading_monomial f) (places ring) lm lf)
+        (h.sound.inside q.smaller within_smaller))
+        (multiple_member ring F pos (ring.modulus - 1) (quotient m (leading_monomial g)) g
+        (quotient_length m (leading_monomial g) (places ring) lm lg) (h.sound.inside q.larger within)))
 
     s_canonical : IsCanonical ring (canonical ring (pair_terms ring G q))
     s_canonical = pair_canonical ring r G h.sound.monic q.smaller q.larger within_smaller within
 
-    still_inside : (remainder f : List Term) → IsMember ring G f → IsMember ring (with_remainder ring (record { members = G; pairs = pairs }) remainder).members f
+    still_inside : (remainder f : List Term) → IsMember ring G f
+        → IsMember ring (with_remainder ring (record { members = G; pairs = pairs }) remainder).members f
     still_inside [] f i = i
     still_inside (x ∷ remainder) f i = member_more ring G (monic_of ring (x ∷ remainder) ∷ []) f i
 
-    step_good : (remainder : List Term) (quotients : List (List Term)) → HasDivided ring G (canonical ring (pair_terms ring G q)) remainder quotients → IsGood (with_remainder ring (record { members = G; pairs = pairs }) remainder)
+    step_good : (remainder : List Term) (quotients : List (List Term)) → HasDivided ring G (canonical ring (pair_terms ring G q)) remainder quotients
+        → IsGood (with_remainder ring (record { members = G; pairs = pairs }) remainder)
     step_good [] quotients d = record {
       sound = sound_rest;
       settled = taken_settled ring G q pairs h.settled (represented_by_division ring r G h.sound.monic q.smaller q.larger within_smaller within quotients d);
     }
     step_good (x ∷ remainder) quotients d =
         let g : List Term = monic_of ring (x ∷ remainder) in
-        let m : IsMember ring F (x ∷ remainder) = remainder_member ring pos G h.sound.monic F h.sound.inside (canonical ring (pair_terms ring G q)) (x ∷ remainder) quotients d s_inside in
+        let m : IsMember ring F (x ∷ remainder) =
+        remainder_member ring pos G h.sound.monic F h.sound.inside (canonical ring (pair_terms ring G q)) (x ∷ remainder) quotients d s_inside in
         let after : List Pair = with_pairs (order_of ring) g (length G) 0 G pairs in
         record {
-          sound = appended_sound ring F G g pairs sound_rest (monic_canonical ring r x remainder d.canonical_remainder) (monic_one ring r x remainder d.canonical_remainder) (monic_inside x remainder d.canonical_remainder m);
+          sound = appended_sound ring F G g pairs sound_rest (monic_canonical ring r x remainder d.canonical_remainder)
+              (monic_one ring r x remainder d.canonical_remainder) (monic_inside x remainder d.canonical_remainder m);
           settled = taken_settled ring (G ++ g ∷ []) q after
               (appended_settled ring F G g (q ∷ pairs) (q ∷ after) h.settled
               (λ x w. elim w as (λ _. IsWaiting x (q ∷ after)) [ inl e ↦ inl e | inr v ↦ inr (pairs_kept (order_of ring) g (length G) 0 G pairs x v) ])
@@ -175,7 +194,8 @@ module _ (ring : Ring) (r : IsRing ring) (F : List (List Term)) (can : (i : ℕ)
   -- the run
 
   run_groebner : (steps : ℕ) (G : List (List Term)) (pairs : List Pair) (units left : ℕ) (R : List (List Term)) → IsGood (record { members = G; pairs = pairs })
-      → ((i : ℕ) → i < length F → IsMember ring G (get_or F i [])) → completed_in steps ring (record { members = G; pairs = pairs }) units ≡ done R left → AreMonic ring R × IsGroebnerBasis ring R F
+      → ((i : ℕ) → i < length F → IsMember ring G (get_or F i []))
+      → completed_in steps ring (record { members = G; pairs = pairs }) units ≡ done R left → AreMonic ring R × IsGroebnerBasis ring R F
   run_groebner zero G pairs units left R h f e = absurd (cc)
   run_groebner (suc steps) G [] units left R h f e =
       let s : G ≡ R = cc in
@@ -189,10 +209,13 @@ module _ (ring : Ring) (r : IsRing ring) (F : List (List Term)) (can : (i : ℕ)
       let a = past_budget (ltb units 1) units _ R left e in
       let b = past_degree (is_too_high (pair_terms ring G q)) (units - 1) _ R left a in
       let s : Completion = record { members = G; pairs = pairs } in
-      let w = went_on (divided ring G (units - 1) (canonical ring (pair_terms ring G q))) (λ remainder left. completed_in steps ring (with_remainder ring s remainder) left) R left b in
-      let d = divided_divides ring G pos h.sound.monic (units - 1) w.units (canonical ring (pair_terms ring G q)) w.remainder w.quotients (s_canonical G q pairs h) w.divided in
+      let w = went_on (divided ring G (units - 1) (canonical ring (pair_terms ring G q))) (λ remainder left.
+      completed_in steps ring (with_remainder ring s remainder) left) R left b in
+      let d = divided_divides ring G pos h.sound.monic (units - 1) w.units (canonical ring (pair_terms ring G q))
+      w.remainder w.quotients (s_canonical G q pairs h) w.divided in
       let t : Completion = with_remainder ring s w.remainder in
-      run_groebner steps t.members t.pairs w.units left R (step_good G q pairs h w.remainder w.quotients d) (λ i l. still_inside G q pairs h w.remainder (get_or F i []) (f i l)) w.rest
+      run_groebner steps t.members t.pairs w.units left R (step_good G q pairs h w.remainder w.quotients d)
+      (λ i l. still_inside G q pairs h w.remainder (get_or F i []) (f i l)) w.rest
 
   -- a completion that ends has found a Gröbner basis of monic members
   pub completion_groebner : (units left : ℕ) (R : List (List Term)) → completion ring F units ≡ done R left → AreMonic ring R × IsGroebnerBasis ring R F

@@ -1,7 +1,7 @@
 -- A basis run of polynomials as a program keeps them ends with such polynomials.
-use Rattle.std.proofs.Common.{ℕ, zero, suc, ◌≡◌, ◌-◌, ◌<◌, inl, inr, Bool, true, false, cond, ltb, List, [], ◌∷◌, length, get_or, refl, subst, arith}
+use Rattle.std.proofs.Common.{ℕ, zero, suc, ◌≡◌, ◌-◌, inl, inr, Bool, true, false, cond, ltb, List, [], ◌∷◌, length, refl, subst, arith}
 use Rattle.cgs_poly.specs.declared.ring.Ring.{Ring}
-use Rattle.cgs_poly.specs.Polynomial.{Term, order_of, IsRing, IsPoly, canonical}
+use Rattle.cgs_poly.specs.Polynomial.{Term, order_of, IsRing, IsPoly, canonical, ArePolys}
 use Rattle.cgs_poly.specs.Monic.{monic_of}
 use Rattle.cgs_poly.specs.Same.{is_among}
 use Rattle.cgs_poly.proofs.RingLemmas.{ring_positive}
@@ -17,7 +17,8 @@ use Rattle.cgs_divide.proofs.AutoreductionRunLemmas.{went_on}
 use Rattle.cgs_divide.proofs.LowLemmas.{autoreduction_polys}
 use Rattle.cgs_pairs.specs.declared.pair.Pair.{Pair}
 use Rattle.cgs_pairs.specs.PairOrder.{PairQueue}
-use Rattle.cgs_basis.specs.BasisRun.{Completion, appended, with_generator, with_generators, with_remainder, pair_terms, completed_in, start, completion, basis_run}
+use Rattle.cgs_basis.specs.BasisRun.{Completion, appended, with_generator, with_generators, with_remainder, pair_terms, completed_in, start, completion}
+use Rattle.cgs_basis.specs.BasisRun.{basis_run}
 use Rattle.cgs_basis.specs.Completion.{IsPairOf, IsCompletion}
 use Rattle.cgs_basis.proofs.RepresentedLemmas.{pair_canonical}
 use Rattle.cgs_basis.proofs.StateLemmas.{appended_completion}
@@ -30,8 +31,6 @@ low_enough true units run R left e = absurd (cc)
 low_enough false units run R left e = refl
 
 -- the polynomials of a list are of the ring
-abbrev ArePolys : Ring → List (List Term) → Type 0
-ArePolys ring G = (i : ℕ) → i < length G → IsPoly ring (get_or G i [])
 
 module _ (ring : Ring) (r : IsRing ring) where
   -- the pairs that wait
@@ -59,7 +58,7 @@ module _ (ring : Ring) (r : IsRing ring) where
 
   generators_held : (F : List (List Term)) (s : Completion) → IsHeld s → ArePolys ring F → IsHeld (with_generators ring s F)
   generators_held [] s h k = h
-  generators_held (f ∷ F) s h k = generators_held F (with_generator ring s f) (generator_held s f h (k 0 (omega arith))) (λ i l. k (suc i) (omega arith))
+  generators_held (f ∷ F) s h k = generators_held F (with_generator ring s f) (generator_held s f h k.0) k.1
 
   started : (F : List (List Term)) → ArePolys ring F → IsHeld (start ring F)
   started F k =
@@ -67,7 +66,7 @@ module _ (ring : Ring) (r : IsRing ring) where
       (record {
         order = refl;
         monic = record { canonical = λ i l. absurd (omega arith); monic = λ i l. absurd (omega arith) };
-        polys = λ i l. absurd (omega arith);
+        polys = tt;
         known = λ q w. absurd w;
       }) k
 

@@ -8,7 +8,7 @@ use Rattle.cgs_exps.proofs.MonomialLemmas.{one_product}
 use Rattle.cgs_order.specs.TermOrder.{compared}
 use Rattle.cgs_poly.specs.declared.ring.Ring.{Ring}
 use Rattle.cgs_poly.specs.Polynomial.{Term, places, order_of, total, IsRing, IsOfRing, IsCanonical, StartsBelow, canonical}
-use Rattle.cgs_poly.specs.Product.{multiple, lead}
+use Rattle.cgs_poly.specs.Product.{multiple, leading_monomial}
 use Rattle.cgs_poly.proofs.RingLemmas.{ring_positive}
 use Rattle.cgs_poly.proofs.SumLemmas.{Alike, alike_same, alike_back, alike_trans, alike_append, coefficients_from_alike}
 use Rattle.cgs_poly.proofs.CanonicalLemmas.{canonical_of_ring, canonical_alike, is_canonical}
@@ -93,14 +93,18 @@ module _ (ring : Ring) (r : IsRing ring) (G : List (List Term)) (ok : AreMonic r
         let b : get_or (G ++ h ∷ []) j [] ≡ get_or G j [] = get_or_append_left G (h ∷ []) [] j hj in
         let within : length G < length (G ++ h ∷ []) = omega (arith, length-append G (h ∷ [])) in
         let long : length one ≡ places ring = length-replicate {A = ℕ} (places ring) 0 in
-        let low : compared (order_of ring) (product one (lead h)) (pair_lcm f g) ≡ Less =
+        let low : compared (order_of ring) (product one (leading_monomial h)) (pair_lcm f g) ≡ Less =
         subst (λ m. compared (order_of ring) (product one m) (pair_lcm f g) ≡ Less) (sym (monic_lead_same ring r x remainder d.canonical_remainder))
-        (subst (λ m. compared (order_of ring) m (pair_lcm f g) ≡ Less) (sym (one_product (places ring) x.exponents d.canonical_remainder.2)) (d.below (pair_lcm f g) starts).1) in
+        (subst (λ m. compared (order_of ring) m (pair_lcm f g) ≡ Less)
+        (sym (one_product (places ring) x.exponents d.canonical_remainder.2)) (d.below (pair_lcm f g) starts).1) in
         record {
           summands = ks ++ last ∷ [];
           combination = combination_append ring (G ++ h ∷ []) ks (last ∷ []) (combination_more ring G (h ∷ []) ks c) (long, within, tt);
-          below = rw (a, b) (leads_append ring (G ++ h ∷ []) (pair_lcm f g) ks (last ∷ []) (leads_more ring G (h ∷ []) (pair_lcm f g) ks c (division_below ring G pair_polynomial (x ∷ remainder) quotients d (pair_lcm f g) starts))
-              (subst (λ q. compared (order_of ring) (product one (lead q)) (pair_lcm f g) ≡ Less) (sym at) low, tt));
-          sum = rw (a, b) (coefficients_from_alike (alike_trans (alike_back pair_alike) (alike_trans (division_sum ring G pair_polynomial (x ∷ remainder) quotients d pos)
-              (rw (combined_append (G ++ h ∷ []) ks (last ∷ []), combined_more ring G (h ∷ []) ks c, at, append-nil (multiple x.coefficient one h)) (alike_append (alike_same ring.modulus (combined G ks)) remainder_multiple)))));
+          below = rw (a, b) (leads_append ring (G ++ h ∷ []) (pair_lcm f g) ks (last ∷ [])
+              (leads_more ring G (h ∷ []) (pair_lcm f g) ks c (division_below ring G pair_polynomial (x ∷ remainder) quotients d (pair_lcm f g) starts))
+              (subst (λ q. compared (order_of ring) (product one (leading_monomial q)) (pair_lcm f g) ≡ Less) (sym at) low, tt));
+          sum = rw (a, b)
+              (coefficients_from_alike (alike_trans (alike_back pair_alike) (alike_trans (division_sum ring G pair_polynomial (x ∷ remainder) quotients d pos)
+              (rw (combined_append (G ++ h ∷ []) ks (last ∷ []), combined_more ring G (h ∷ []) ks c, at, append-nil (multiple x.coefficient one h))
+              (alike_append (alike_same ring.modulus (combined G ks)) remainder_multiple)))));
         }

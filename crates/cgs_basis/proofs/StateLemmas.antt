@@ -1,12 +1,13 @@
 -- What is known of a completion at each step: monic members of the ideal, and each pair of places waits or has an lcm representation.
-use Rattle.std.proofs.Common.{ℕ, zero, suc, ◌≡◌, ◌+◌, ◌<◌, ◌≤◌, ◌⊎◌, inl, inr, true, false, cond, List, [], ◌∷◌, ◌++◌, length, get_or, drop, add-one, refl, sym, ap, ◌∙◌, subst, arith}
+use Rattle.std.proofs.Common.{ℕ, zero, suc, ◌≡◌, ◌+◌, ◌<◌, ◌≤◌, ◌⊎◌, inl, inr, true, false, cond, List, [], ◌∷◌, ◌++◌, length, get_or, drop, add-one, refl, sym}
+use Rattle.std.proofs.Common.{ap, ◌∙◌, subst, arith}
 use Rattle.std.proofs.Math.Seq.{drop-cons}
 use Rattle.std.proofs.lemmas.Bool.{cases_order}
 use Rattle.std.proofs.lemmas.List.{length-append}
 use Rattle.cgs_order.specs.declared.block.BlockOrder.{BlockOrder}
 use Rattle.cgs_poly.specs.declared.ring.Ring.{Ring}
 use Rattle.cgs_poly.specs.Polynomial.{Term, order_of, IsPoly, IsCanonical}
-use Rattle.cgs_poly.specs.Product.{lead_coefficient}
+use Rattle.cgs_poly.specs.Product.{leading_coefficient}
 use Rattle.cgs_algebra.specs.Combination.{IsMember}
 use Rattle.cgs_algebra.specs.Groebner.{AreMonic}
 use Rattle.cgs_algebra.specs.SPolynomial.{pair_lcm, HasLcmRepresentation}
@@ -16,18 +17,20 @@ use Rattle.cgs_pairs.proofs.PairLemmas.{pair_here, pair_kept, pair_from}
 use Rattle.cgs_divide.proofs.PlaceLemmas.{each_appended}
 use Rattle.cgs_poly.specs.Monic.{monic_of}
 use Rattle.cgs_poly.specs.Same.{is_among}
+use Rattle.cgs_list.proofs.ListLemmas.{all_push}
 use Rattle.cgs_basis.specs.BasisRun.{Completion, with_pairs, appended, with_generator, with_remainder}
 use Rattle.cgs_basis.specs.Completion.{IsPairOf, IsCompletion}
 use Rattle.cgs_algebra.proofs.GrowthLemmas.{representation_more}
 
 -- the pairs of a new member
 
-pub pairs_kept : (order : BlockOrder) (g : List Term) (place i : ℕ) (G : List (List Term)) (pairs : List Pair) (q : Pair) → IsWaiting q pairs → IsWaiting q (with_pairs order g place i G pairs)
+pub pairs_kept : (order : BlockOrder) (g : List Term) (place i : ℕ) (G : List (List Term)) (pairs : List Pair) (q : Pair)
+    → IsWaiting q pairs → IsWaiting q (with_pairs order g place i G pairs)
 pairs_kept order g place i [] pairs q h = h
 pairs_kept order g place i (f ∷ G) pairs q h =
     pairs_kept order g place (suc i) G (with_pair order (pair (pair_lcm f g) place i) pairs) q (pair_kept order q (pair (pair_lcm f g) place i) pairs h)
 
-pub pairs_new : (order : BlockOrder) (g : List Term) (place i : ℕ) (G : List (List Term)) (pairs : List Pair) (k : ℕ) → k < length G
+pairs_new : (order : BlockOrder) (g : List Term) (place i : ℕ) (G : List (List Term)) (pairs : List Pair) (k : ℕ) → k < length G
     → (q : Pair) × IsWaiting q (with_pairs order g place i G pairs) × (q.smaller ≡ i + k) × (q.larger ≡ place)
 pairs_new order g place i [] pairs k l = absurd (omega arith)
 pairs_new order g place i (f ∷ G) pairs zero l =
@@ -38,7 +41,7 @@ pairs_new order g place i (f ∷ G) pairs (suc k) l =
     (q.0, q.1, omega (arith, q.2), q.3)
 
 -- they are pairs of places
-pub pairs_of : (order : BlockOrder) (g : List Term) (place i : ℕ) (G : List (List Term)) (pairs : List Pair) → i + length G ≤ place
+pairs_of : (order : BlockOrder) (g : List Term) (place i : ℕ) (G : List (List Term)) (pairs : List Pair) → i + length G ≤ place
     → ((q : Pair) → IsWaiting q pairs → IsPairOf (suc place) q) → (q : Pair) → IsWaiting q (with_pairs order g place i G pairs) → IsPairOf (suc place) q
 pairs_of order g place i [] pairs l h q k = h q k
 pairs_of order g place i (f ∷ G) pairs l h q k =
@@ -63,7 +66,8 @@ pub record AreSettled (ring : Ring) (G : List (List Term)) (pairs : List Pair) :
   pub at : (i j : ℕ) → i < j → j < length G → IsSettledAt ring G pairs i j
 
 -- a pair that has a representation need not wait
-pub taken_settled : (ring : Ring) (G : List (List Term)) (x : Pair) (pairs : List Pair) → AreSettled ring G (x ∷ pairs) → HasLcmRepresentation ring G x.smaller x.larger → AreSettled ring G pairs
+pub taken_settled : (ring : Ring) (G : List (List Term)) (x : Pair) (pairs : List Pair) → AreSettled ring G (x ∷ pairs)
+    → HasLcmRepresentation ring G x.smaller x.larger → AreSettled ring G pairs
 taken_settled ring G x pairs h r = record { at = λ i j l k. by_case i j (h.at i j l k) }
   where
     by_case : (i j : ℕ) → IsSettledAt ring G (x ∷ pairs) i j → IsSettledAt ring G pairs i j
@@ -83,15 +87,18 @@ module _ (ring : Ring) (F G : List (List Term)) (g : List Term) where
   long : length (G ++ g ∷ []) ≡ suc (length G)
   long = omega (arith, length-append G (g ∷ []))
 
-  pub appended_monic : AreMonic ring G → IsCanonical ring g → lead_coefficient g ≡ 1 → AreMonic ring (G ++ g ∷ [])
-  appended_monic h can one = record { canonical = each_appended (λ f. IsCanonical ring f) G g h.canonical can; monic = each_appended (λ f. lead_coefficient f ≡ 1) G g h.monic one }
+  appended_monic : AreMonic ring G → IsCanonical ring g → leading_coefficient g ≡ 1 → AreMonic ring (G ++ g ∷ [])
+  appended_monic h can one =
+      record { canonical = each_appended (λ f. IsCanonical ring f) G g h.canonical can; monic = each_appended (λ f. leading_coefficient f ≡ 1) G g h.monic one }
 
-  pub appended_known : (pairs : List Pair) → ((q : Pair) → IsWaiting q pairs → IsPairOf (length G) q) → (q : Pair) → IsWaiting q (with_pairs (order_of ring) g (length G) 0 G pairs) → IsPairOf (length (G ++ g ∷ [])) q
+  appended_known : (pairs : List Pair) → ((q : Pair) → IsWaiting q pairs → IsPairOf (length G) q) → (q : Pair)
+      → IsWaiting q (with_pairs (order_of ring) g (length G) 0 G pairs) → IsPairOf (length (G ++ g ∷ [])) q
   appended_known pairs h q w =
-      let s = pairs_of (order_of ring) g (length G) 0 G pairs (omega arith) (λ x j. let k = h x j in record { apart = k.apart; within = omega (arith, k.within) }) q w in
+      let s = pairs_of (order_of ring) g (length G) 0 G pairs (omega arith) (λ x j. let k =
+      h x j in record { apart = k.apart; within = omega (arith, k.within) }) q w in
       record { apart = s.apart; within = omega (arith, long, s.within) }
 
-  pub appended_sound : (pairs : List Pair) → IsSound ring F G pairs → IsCanonical ring g → lead_coefficient g ≡ 1 → IsMember ring F g
+  pub appended_sound : (pairs : List Pair) → IsSound ring F G pairs → IsCanonical ring g → leading_coefficient g ≡ 1 → IsMember ring F g
       → IsSound ring F (G ++ g ∷ []) (with_pairs (order_of ring) g (length G) 0 G pairs)
   appended_sound pairs h can one member = record {
     monic = appended_monic h.monic can one;
@@ -121,28 +128,32 @@ new_waits order G g pairs k l = let q = pairs_new order g (length G) 0 G pairs k
 
 -- the pair of one member after another
 pub pairs_step : (order : BlockOrder) (g : List Term) (place i : ℕ) (G : List (List Term)) (pairs : List Pair) → i < length G
-    → with_pairs order g place i (drop i G) pairs ≡ with_pairs order g place (i + 1) (drop (i + 1) G) (with_pair order (pair (pair_lcm (get_or G i []) g) place i) pairs)
+    → with_pairs order g place i (drop i G) pairs
+    ≡ with_pairs order g place (i + 1) (drop (i + 1) G) (with_pair order (pair (pair_lcm (get_or G i []) g) place i) pairs)
 pairs_step order g place i G pairs l = rw add-one (ap (λ H. with_pairs order g place i H pairs) (drop-cons G i [] l))
 
 -- a polynomial at the end, with its pairs
-pub appended_completion : (ring : Ring) (G : List (List Term)) (queue : PairQueue) (g : List Term) → IsCompletion ring G queue → IsPoly ring g → lead_coefficient g ≡ 1
+pub appended_completion : (ring : Ring) (G : List (List Term)) (queue : PairQueue) (g : List Term)
+    → IsCompletion ring G queue → IsPoly ring g → leading_coefficient g ≡ 1
     → IsCompletion ring (G ++ g ∷ []) (record { order = queue.order; pairs = with_pairs (order_of ring) g (length G) 0 G queue.pairs })
 appended_completion ring G queue g h poly one = record {
   order = h.order;
   monic = appended_monic ring [] G g h.monic poly.canonical one;
-  polys = each_appended (λ f. IsPoly ring f) G g h.polys poly;
+  polys = all_push (IsPoly ring) G g h.polys poly;
   known = appended_known ring [] G g queue.pairs h.known;
 }
 
 -- a generator or a remainder that is not 0
 
-pub generator_new : (ring : Ring) (s : Completion) (f g : List Term) → 0 < length f → g ≡ monic_of ring f → is_among g s.members ≡ false → with_generator ring s f ≡ appended ring s g
+pub generator_new : (ring : Ring) (s : Completion) (f g : List Term) → 0 < length f → g ≡ monic_of ring f
+    → is_among g s.members ≡ false → with_generator ring s f ≡ appended ring s g
 generator_new ring s [] g l e n = absurd (omega arith)
 generator_new ring s (x ∷ f) g l e n =
     let k : is_among (monic_of ring (x ∷ f)) s.members ≡ false = ap (λ h. is_among h s.members) (sym e) ∙ n in
     ap (λ b. cond b s (appended ring s (monic_of ring (x ∷ f)))) k ∙ ap (λ h. appended ring s h) (sym e)
 
-pub generator_there : (ring : Ring) (s : Completion) (f g : List Term) → 0 < length f → g ≡ monic_of ring f → is_among g s.members ≡ true → with_generator ring s f ≡ s
+pub generator_there : (ring : Ring) (s : Completion) (f g : List Term) → 0 < length f
+    → g ≡ monic_of ring f → is_among g s.members ≡ true → with_generator ring s f ≡ s
 generator_there ring s [] g l e n = absurd (omega arith)
 generator_there ring s (x ∷ f) g l e n =
     let k : is_among (monic_of ring (x ∷ f)) s.members ≡ true = ap (λ h. is_among h s.members) (sym e) ∙ n in

@@ -15,17 +15,20 @@ use Rattle.cgs_basis.specs.Completion.{IsPairOf, IsCompletion}
 use Rattle.cgs_basis.proofs.RunLemmas.{completed, stops_at_budget, stops_at_degree, goes_on}
 
 -- one generator after another
-pub generators_step : (ring : Ring) (F : List (List Term)) (i : ℕ) (f : List Term) (s t : Completion) → i < length F → get_or F i [] ≡ f → t ≡ with_generator ring s f
+pub generators_step : (ring : Ring) (F : List (List Term)) (i : ℕ) (f : List Term) (s t : Completion)
+    → i < length F → get_or F i [] ≡ f → t ≡ with_generator ring s f
     → with_generators ring s (drop i F) ≡ with_generators ring t (drop (i + 1) F)
 generators_step ring F i f s t l e h =
-    rw add-one (ap (λ H. with_generators ring s H) (drop-cons F i [] l) ∙ ap (λ u. with_generators ring u (drop (suc i) F)) (ap (λ g. with_generator ring s g) e ∙ sym h))
+    rw add-one (ap (λ H. with_generators ring s H) (drop-cons F i [] l)
+    ∙ ap (λ u. with_generators ring u (drop (suc i) F)) (ap (λ g. with_generator ring s g) e ∙ sym h))
 
 module _ (ring : Ring) (G : List (List Term)) (queue after : PairQueue) (q : Pair) (some : queue.pairs ≡ q ∷ after.pairs) where
   pub taken_known : IsCompletion ring G queue → IsPairOf (length G) q
   taken_known h = h.known q (subst (λ pairs. IsWaiting q pairs) (sym some) (inl refl))
 
   pub taken_rest : after.order ≡ queue.order → IsCompletion ring G queue → IsCompletion ring G after
-  taken_rest e h = record { order = e ∙ h.order; monic = h.monic; polys = h.polys; known = λ x w. h.known x (subst (λ pairs. IsWaiting x pairs) (sym some) (inr w)) }
+  taken_rest e h =
+      record { order = e ∙ h.order; monic = h.monic; polys = h.polys; known = λ x w. h.known x (subst (λ pairs. IsWaiting x pairs) (sym some) (inr w)) }
 
   taken_pairs : (units : ℕ) → completed ring (completion_of G queue) units ≡ completed ring (record { members = G; pairs = q ∷ after.pairs }) units
   taken_pairs units = ap (λ pairs. completed ring (record { members = G; pairs = pairs }) units) some
@@ -33,7 +36,8 @@ module _ (ring : Ring) (G : List (List Term)) (queue after : PairQueue) (q : Pai
   pub taken_budget : (units : ℕ) → units < 1 → completed ring (completion_of G queue) units ≡ out_of_budget units
   taken_budget units l = taken_pairs units ∙ stops_at_budget ring G q after.pairs units l
 
-  module _ (f g : List Term) (first : get_or G q.smaller [] ≡ f) (second : get_or G q.larger [] ≡ g) (units paid : ℕ) (enough : 1 ≤ units) (cost : paid ≡ units - 1) where
+  module _ (f g : List Term) (first : get_or G q.smaller [] ≡ f) (second : get_or G q.larger [] ≡ g)
+      (units paid : ℕ) (enough : 1 ≤ units) (cost : paid ≡ units - 1) where
     terms_are : s_terms ring f g ≡ pair_terms ring G q
     terms_are = ap (λ a. s_terms ring a g) (sym first) ∙ ap (λ b. s_terms ring (get_or G q.smaller []) b) (sym second)
 
@@ -42,9 +46,13 @@ module _ (ring : Ring) (G : List (List Term)) (queue after : PairQueue) (q : Pai
         let high : is_too_high (pair_terms ring G q) ≡ true = ap is_too_high (sym terms_are) ∙ high_unless_low (s_terms ring f g) n in
         taken_pairs units ∙ (stops_at_degree ring G q after.pairs units enough high ∙ ap out_of_degree (sym cost))
 
-    pub taken_division : (s : List Term) (run : division.Run) → HasLowDegrees (s_terms ring f g) → s ≡ canonical ring (s_terms ring f g) → divided ring G paid s ≡ run
-        → completed ring (completion_of G queue) units ≡ after_division run (λ remainder left. completed ring (with_remainder ring (completion_of G after) remainder) left)
+    pub taken_division : (s : List Term) (run : division.Run) → HasLowDegrees (s_terms ring f g)
+        → s ≡ canonical ring (s_terms ring f g) → divided ring G paid s ≡ run
+        → completed ring (completion_of G queue) units
+        ≡ after_division run (λ remainder left. completed ring (with_remainder ring (completion_of G after) remainder) left)
     taken_division s run low e d =
         let flat : is_too_high (pair_terms ring G q) ≡ false = ap is_too_high (sym terms_are) ∙ low_not_high (s_terms ring f g) low in
-        let a : divided ring G (units - 1) (canonical ring (pair_terms ring G q)) ≡ run = ap (λ n. divided ring G n (canonical ring (pair_terms ring G q))) (sym cost) ∙ (ap (λ h. divided ring G paid h) (ap (λ h. canonical ring h) (sym terms_are) ∙ sym e) ∙ d) in
+        let a : divided ring G (units - 1) (canonical ring (pair_terms ring G q)) ≡ run =
+        ap (λ n. divided ring G n (canonical ring (pair_terms ring G q))) (sym cost)
+        ∙ (ap (λ h. divided ring G paid h) (ap (λ h. canonical ring h) (sym terms_are) ∙ sym e) ∙ d) in
         taken_pairs units ∙ goes_on ring G q after.pairs units run enough flat a

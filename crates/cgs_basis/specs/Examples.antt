@@ -74,7 +74,8 @@ unit_circle = term 1 (2 ∷ 0 ∷ 0 ∷ 0 ∷ []) ∷ term 1 (0 ∷ 2 ∷ 0 ∷ 
 
 abbrev pub moved_circle : List Term
 moved_circle =
-    term 1 (2 ∷ 0 ∷ 0 ∷ 0 ∷ []) ∷ term 32001 (1 ∷ 0 ∷ 1 ∷ 0 ∷ []) ∷ term 1 (0 ∷ 2 ∷ 0 ∷ 0 ∷ []) ∷ term 1 (0 ∷ 0 ∷ 2 ∷ 0 ∷ []) ∷ term 32002 (0 ∷ 0 ∷ 0 ∷ 1 ∷ []) ∷ []
+    term 1 (2 ∷ 0 ∷ 0 ∷ 0 ∷ []) ∷ term 32001 (1 ∷ 0 ∷ 1 ∷ 0 ∷ []) ∷ term 1 (0 ∷ 2 ∷ 0 ∷ 0 ∷ [])
+    ∷ term 1 (0 ∷ 0 ∷ 2 ∷ 0 ∷ []) ∷ term 32002 (0 ∷ 0 ∷ 0 ∷ 1 ∷ []) ∷ []
 
 -- with c for r - a^2 - 1, and 16002 and 8001 for the inverses of 2 and 4: a^2*y^2 + c^2/4 - a^2, (r-1)*x - 2*a*y^2 + a*c/2 + 2*a, a*x + c/2
 abbrev pub without_x : List Term

@@ -1,7 +1,7 @@
 //! The reduced Gröbner basis of an ideal.
 
-ghost use Rattle.std.specs.Prelude.{◌≡◌, ◌<◌, ◌≤◌, ℕ, List, [], length, slice_index_or, IfOk, IsErrOf};
-ghost use Rattle.cgs_poly.specs.Polynomial.{Term, IsRing, IsPoly};
+ghost use Rattle.std.specs.Prelude.{◌≡◌, ◌≤◌, List, IfOk, IsErrOf};
+ghost use Rattle.cgs_poly.specs.Polynomial.{Term, IsRing, ArePolys};
 ghost use Rattle.cgs_algebra.specs.Groebner.{IsReduced, IsAscending};
 ghost use Rattle.cgs_divide.specs.AutoreductionRun.{done, out_of_budget, out_of_degree};
 ghost use Rattle.cgs_basis.specs.BasisRun.{basis_run};
@@ -20,12 +20,12 @@ pub fn reduced_basis(
     fuel: &mut u64,
 ) -> Result<PolyList, Stop>
     requires ring { IsRing ring.now }
-    requires polys { (i : ℕ) → i < length generators.now → IsPoly ring.now (slice_index_or generators.now i []) }
+    requires polys { ArePolys ring.now generators.now }
     ensures ok { IfOk result (λ R. basis_run ring.now generators.now fuel.old ≡ done R fuel.new) }
     ensures reduced { IfOk result (λ R. IsReduced ring.now R generators.now) }
     ensures ascending { IfOk result (λ R. IsAscending ring.now R) }
     ensures unique { IfOk result (λ R. (S : List (List Term)) → IsReduced ring.now S generators.now → IsAscending ring.now S → S ≡ R) }
-    ensures polys { IfOk result (λ R. (i : ℕ) → i < length R → IsPoly ring.now (slice_index_or R i [])) }
+    ensures polys { IfOk result (λ R. ArePolys ring.now R) }
     ensures budget { IsErrOf result Stop.Budget → basis_run ring.now generators.now fuel.old ≡ out_of_budget fuel.new }
     ensures degree { IsErrOf result Stop.Degree → basis_run ring.now generators.now fuel.old ≡ out_of_degree fuel.new }
     ensures units { fuel.new ≤ fuel.old }

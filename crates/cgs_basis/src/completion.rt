@@ -1,8 +1,8 @@
 //! Completion: Buchberger's algorithm up to a Gröbner basis that need not be reduced.
 
-ghost use Rattle.std.specs.Prelude.{◌≡◌, ◌<◌, ◌≤◌, ℕ, [], length, slice_index_or, IfOk, OnOk, IsErrOf};
-ghost use Rattle.cgs_poly.specs.Polynomial.{IsRing, IsPoly, order_of};
-ghost use Rattle.cgs_poly.specs.Product.{lead, lead_coefficient};
+ghost use Rattle.std.specs.Prelude.{◌≡◌, ◌<◌, ◌≤◌, length, IfOk, OnOk, IsErrOf};
+ghost use Rattle.cgs_poly.specs.Polynomial.{IsRing, IsPoly, order_of, ArePolys};
+ghost use Rattle.cgs_poly.specs.Product.{leading_monomial, leading_coefficient};
 ghost use Rattle.cgs_algebra.specs.Groebner.{AreMonic, IsGroebnerBasis};
 ghost use Rattle.cgs_algebra.specs.SPolynomial.{pair_lcm};
 ghost use Rattle.cgs_divide.specs.AutoreductionRun.{done, out_of_budget, out_of_degree};
@@ -26,11 +26,11 @@ pub fn complete(
     fuel: &mut u64,
 ) -> Result<PolyList, Stop>
     requires ring { IsRing ring.now }
-    requires polys { (i : ℕ) → i < length generators.now → IsPoly ring.now (slice_index_or generators.now i []) }
+    requires polys { ArePolys ring.now generators.now }
     ensures ok { IfOk result (λ G. completion ring.now generators.now fuel.old ≡ done G fuel.new) }
     ensures basis { IfOk result (λ G. IsGroebnerBasis ring.now G generators.now) }
     ensures monic { IfOk result (λ G. AreMonic ring.now G) }
-    ensures polys { IfOk result (λ G. (i : ℕ) → i < length G → IsPoly ring.now (slice_index_or G i [])) }
+    ensures polys { IfOk result (λ G. ArePolys ring.now G) }
     ensures budget { IsErrOf result Stop.Budget → completion ring.now generators.now fuel.old ≡ out_of_budget fuel.new }
     ensures degree { IsErrOf result Stop.Degree → completion ring.now generators.now fuel.old ≡ out_of_degree fuel.new }
     ensures units { fuel.new ≤ fuel.old }
@@ -111,7 +111,7 @@ fn append(
     requires ring { IsRing ring.now }
     requires completion { IsCompletion ring.now members.old queue.old }
     requires poly { IsPoly ring.now g }
-    requires lead { lead_coefficient g ≡ 1 }
+    requires lead { leading_coefficient g ≡ 1 }
     ensures state { OnOk result (run.completion_of members.new queue.new ≡ appended ring.now (run.completion_of members.old queue.old) g) }
     ensures completion { OnOk result (IsCompletion ring.now members.new queue.new) }
 {
@@ -131,7 +131,7 @@ fn queue_pairs(
     requires ring { IsRing ring.now }
     requires completion { IsCompletion ring.now members.now queue.old }
     requires poly { IsPoly ring.now g.now }
-    requires lead { lead_coefficient g.now ≡ 1 }
+    requires lead { leading_coefficient g.now ≡ 1 }
     ensures { OnOk result (queue.new ≡ record { order = queue.old.order; pairs = with_pairs (order_of ring.now) g.now (length members.now) 0 members.now queue.old.pairs }) }
 {
     let place = members.len();
@@ -152,8 +152,8 @@ fn pair_of(
 ) -> Result<Pair, AllocError>
     requires first { 0 < length f.now }
     requires second { 0 < length g.now }
-    requires same_places { length (lead f.now) ≡ length (lead g.now) }
-    requires places { length (lead f.now) ≤ MAX_PLACES }
+    requires same_places { length (leading_monomial f.now) ≡ length (leading_monomial g.now) }
+    requires places { length (leading_monomial f.now) ≤ MAX_PLACES }
     ensures { IfOk result (λ q. q ≡ pair (pair_lcm f.now g.now) larger smaller) }
 {
     let (a, b) = (f.term(0).exponents, g.term(0).exponents);

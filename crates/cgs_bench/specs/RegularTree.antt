@@ -1,7 +1,7 @@
 -- A regular tree: each branch above the last level has the same number of children, and each branch on it the entry 0. A branch is its
 -- number of children, and how many levels are below it.
-use Rattle.std.specs.Prelude.{◌≡◌, ℕ, ◌<◌, List, [], ◌++◌, ◌∷◌, replicate, Option, Some, None, slice_get}
-use Rattle.std.proofs.Common.{zero, suc, sym, arith, ap, ◌∙◌}
+use Rattle.std.specs.Prelude.{◌≡◌, ℕ, ◌<◌, List, [], replicate, Option, Some, None, slice_get}
+use Rattle.std.proofs.Common.{zero, suc, sym, arith, ap}
 use Rattle.std.proofs.lemmas.Option.{none-some, same_Some}
 use Rattle.cgs_board.specs.Tree.{Falls}
 

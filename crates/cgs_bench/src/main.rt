@@ -7,16 +7,17 @@
 
 mod tree;
 
-ghost use Rattle.std.specs.Prelude.{◌≡◌, ◌≤◌, ◌<◌, ℕ, [], length, slice_index_or, IfSome, IfOk};
-ghost use Rattle.cgs_poly.specs.Polynomial.{IsRing, IsPoly, places};
+ghost use Rattle.std.specs.Prelude.{◌≡◌, ◌≤◌, IfSome, IfOk};
+ghost use Rattle.cgs_poly.specs.Polynomial.{IsRing, IsPoly, places, ArePolys};
+ghost use Rattle.cgs_list.proofs.ListLemmas.{all_push};
 ghost use Rattle.cgs_algebra.specs.Groebner.{AreMonic};
 
 use crate::tree::take_trees;
 use cgs_divide::{Stop, divide};
 use cgs_field::Modulus;
 use cgs_order::Kind;
-use cgs_poly::{Poly, PolyFault, PolyList, Ring};
-use std::alloc::Global;
+use cgs_poly::{Poly, PolyFault, PolyList, Ring, TermList};
+use std::alloc::{AllocError, Global};
 use std::env;
 use std::process::ExitCode;
 use std::rt::Env;
@@ -45,11 +46,11 @@ fn with_polynomials(alloc: Global, operation: Operation, terms: u32, times: u32)
     requires terms { terms ≤ 1000000 }
 {
     let ring = plane()?;
-    let f = spread(alloc, &ring, 2, 0, terms).ok()?;
+    let f = spread(alloc, &ring, 2, terms).ok()?;
     match operation {
         Operation::Divide => divide_for(alloc, &ring, &f, times),
         Operation::Add | Operation::Product => {
-            let g = spread(alloc, &ring, 3, 0, terms).ok()?;
+            let g = spread(alloc, &ring, 3, terms).ok()?;
             operate_for(alloc, &ring, operation, &f, &g, times)
         }
     }
@@ -99,7 +100,7 @@ fn divide_for(alloc: Global, ring: &Ring, f: &Poly, units: u32) -> Option<()>
     requires two { places ring.now ≡ 2 }
     requires poly { IsPoly ring.now f.now }
 {
-    let divisor = spread(alloc, ring, 3, 0, 10).ok()?;
+    let divisor = spread(alloc, ring, 3, 10).ok()?;
     let divisors = monic_list(alloc, ring, &divisor).ok()?;
     let mut fuel = u64::from(units);
     for _ in 0..units {
@@ -117,7 +118,7 @@ fn monic_list(alloc: Global, ring: &Ring, f: &Poly) -> Result<PolyList, PolyFaul
     requires ring { IsRing ring.now }
     requires poly { IsPoly ring.now f.now }
     ensures monic { IfOk result (λ G. AreMonic ring.now G) }
-    ensures polys { IfOk result (λ G. (i : ℕ) → i < length G → IsPoly ring.now (slice_index_or G i [])) }
+    ensures polys { IfOk result (λ G. ArePolys ring.now G) }
 {
     let mut list = PolyList::new(alloc);
     if f.len() == 0 {
@@ -151,26 +152,22 @@ fn plane() -> Option<Ring>
     })
 }
 
-/// The terms with the numbers `from` up to `to`: the number's digits to the base 300, times `step`, are the exponents.
-fn spread(alloc: Global, ring: &Ring, step: u32, from: u32, to: u32) -> Result<Poly, PolyFault>
+/// The sum of so many terms, of which the number's digits to the base 300, times `step`, are the exponents.
+#[tactic(auto, using(cgs_poly::proofs::TermLemmas::terms_have_length, cgs_list::proofs::ListLemmas::all_push))]
+fn spread(alloc: Global, ring: &Ring, step: u32, terms: u32) -> Result<Poly, AllocError>
     requires ring { IsRing ring.now }
     requires two { places ring.now ≡ 2 }
     requires step { step ≤ 3 }
-    requires few { to ≤ 1000000 }
+    requires few { terms ≤ 1000000 }
     ensures { IfOk result (λ f. IsPoly ring.now f) }
 {
-    if to <= from {
-        return Ok(Poly::zero(alloc));
+    let mut list = TermList::new(alloc);
+    for number in 0..terms {
+        let exponents = [(number / 300) as u16, (number % 300 * step) as u16];
+        let coefficient = ring.modulus.of_u64(u64::from(number % 32002) + 1);
+        list.push(coefficient, &exponents)?;
     }
-    if to - from == 1 {
-        let exponents = [(from / 300) as u16, (from % 300 * step) as u16];
-        let coefficient = ring.modulus.of_u64(u64::from(from % 32002) + 1);
-        return Poly::of_term(alloc, ring, coefficient, &exponents);
-    }
-    let half = from + (to - from) / 2;
-    let first = spread(alloc, ring, step, from, half)?;
-    let second = spread(alloc, ring, step, half, to)?;
-    let sum = Poly::add(alloc, ring, &first, &second)?;
+    let sum = Poly::of_terms(alloc, ring, &list)?;
     Ok(sum)
 }
 

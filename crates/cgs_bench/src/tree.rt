@@ -1,6 +1,5 @@
 //! A regular tree, whose branches one worker takes from a board: a chain, a star or a binary tree, as its numbers are.
 
-ghost use Rattle.std.specs.Prelude.{◌≡◌, ◌↔◌, ℕ, List, Option, IfOk, IsTrue};
 ghost use Rattle.cgs_bench.specs.RegularTree.{regular, levels_below, levels_fall};
 
 use cgs_board::{Job, Outcome};

@@ -2,7 +2,7 @@
 
 ghost use Rattle.std.specs.Prelude.{◌≡◌, [], IfOk};
 ghost use Rattle.std.specs.List.{AllByRecursion};
-ghost use Rattle.cgs_poly.specs.Polynomial.{IsRing, IsPoly};
+ghost use Rattle.cgs_poly.specs.Polynomial.{IsRing, IsPoly, ArePolys};
 ghost use Rattle.cgs_poly.specs.Parameters.{IsCondition};
 ghost use Rattle.cgs_dickson.specs.Dickson.{is_constant, coefficient_list};
 
@@ -18,7 +18,7 @@ pub fn coefficient_list(
     members: &PolyList,
 ) -> Result<PolyList, AllocError>
     requires ring { IsRing ring.now }
-    requires polys { AllByRecursion (IsPoly ring.now) members.now }
+    requires polys { ArePolys ring.now members.now }
     requires nonzero { AllByRecursion (λ g. ¬ (g ≡ [])) members.now }
     ensures list { IfOk result (λ list. list ≡ coefficient_list ring.now members.now) }
     ensures conditions { IfOk result (λ list. AllByRecursion (IsCondition ring.now) list) }

@@ -4,12 +4,13 @@ ghost use Rattle.std.specs.Prelude.{◌≡◌, ◌&&◌, ◌||◌, [], bytes_eq,
 ghost use Rattle.std.specs.List.{AllByRecursion};
 ghost use Rattle.std.specs.Ordering.{is_lt};
 ghost use Rattle.cgs_order.specs.TermOrder.{compared};
-ghost use Rattle.cgs_poly.specs.Polynomial.{IsRing, IsPoly, order_of};
-ghost use Rattle.cgs_poly.specs.Product.{lead};
+ghost use Rattle.cgs_poly.specs.Polynomial.{IsRing, IsPoly, order_of, ArePolys};
+ghost use Rattle.cgs_poly.specs.Product.{leading_monomial};
 ghost use Rattle.cgs_poly.specs.Parameters.{lead_x};
 ghost use Rattle.cgs_dickson.specs.Dickson.{properly_divides, has_minimal_lead_x, has_least_lead, minimal_dickson};
 
 use cgs_exps::divides;
+use cgs_list::Duplicate;
 use cgs_order::compare;
 use cgs_poly::{Poly, PolyList, Ring};
 use std::alloc::{AllocError, Global};
@@ -23,10 +24,10 @@ pub fn minimal_dickson(
     members: &PolyList,
 ) -> Result<PolyList, AllocError>
     requires ring { IsRing ring.now }
-    requires polys { AllByRecursion (IsPoly ring.now) members.now }
+    requires polys { ArePolys ring.now members.now }
     requires nonzero { AllByRecursion (λ g. ¬ (g ≡ [])) members.now }
     ensures kept { IfOk result (λ kept. kept ≡ minimal_dickson ring.now members.now) }
-    ensures polys { IfOk result (λ kept. AllByRecursion (IsPoly ring.now) kept) }
+    ensures polys { IfOk result (λ kept. ArePolys ring.now kept) }
     ensures nonzero { IfOk result (λ kept. AllByRecursion (λ g. ¬ (g ≡ [])) kept) }
 {
     let mut kept = PolyList::new(alloc);
@@ -43,7 +44,7 @@ pub fn minimal_dickson(
 // Whether no member excludes g.
 fn is_kept(ring: &Ring, members: &PolyList, g: &Poly) -> bool
     requires ring { IsRing ring.now }
-    requires polys { AllByRecursion (IsPoly ring.now) members.now }
+    requires polys { ArePolys ring.now members.now }
     requires nonzero { AllByRecursion (λ g. ¬ (g ≡ [])) members.now }
     requires poly { IsPoly ring.now g.now }
     requires some { ¬ (g.now ≡ []) }
@@ -64,7 +65,7 @@ fn excludes(ring: &Ring, h: &Poly, g: &Poly) -> bool
     requires first_some { ¬ (h.now ≡ []) }
     requires second { IsPoly ring.now g.now }
     requires second_some { ¬ (g.now ≡ []) }
-    ensures { result ≡ (properly_divides (lead_x ring.now h.now) (lead_x ring.now g.now) || (bytes_eq (lead_x ring.now h.now) (lead_x ring.now g.now) && is_lt (compared (order_of ring.now) (lead h.now) (lead g.now)))) }
+    ensures { result ≡ (properly_divides (lead_x ring.now h.now) (lead_x ring.now g.now) || (bytes_eq (lead_x ring.now h.now) (lead_x ring.now g.now) && is_lt (compared (order_of ring.now) (leading_monomial h.now) (leading_monomial g.now)))) }
 {
     let m = h.term(0).exponents;
     let n = g.term(0).exponents;

@@ -1,5 +1,6 @@
 -- A minimal Gröbner basis in ascending order, each member divided by the results before it, becomes the reduced one.
-use Rattle.std.proofs.Common.{ℕ, zero, suc, ◌≡◌, ◌+◌, ◌-◌, ◌*◌, ◌%◌, ◌<◌, ◌⊎◌, inl, inr, true, List, [], ◌∷◌, ◌++◌, length, get_or, take, refl, sym, ap, ◌∙◌, subst, arith}
+use Rattle.std.proofs.Common.{ℕ, zero, suc, ◌≡◌, ◌+◌, ◌-◌, ◌*◌, ◌%◌, ◌<◌, ◌⊎◌, inl, inr, true, List, [], ◌∷◌, ◌++◌, length, get_or, take, refl, sym, ap, ◌∙◌}
+use Rattle.std.proofs.Common.{subst, arith}
 use Rattle.std.proofs.Math.Nat.{zero-mod, add-zero, zero-add, mod-eq_of_lt}
 use Rattle.std.proofs.lemmas.Bool.{cases_order}
 use Rattle.std.proofs.lemmas.List.{length-take, get_or-take}
@@ -11,13 +12,13 @@ use Rattle.cgs_exps.proofs.MonomialLemmas.{product_length, divides_product}
 use Rattle.cgs_order.specs.TermOrder.{compared}
 use Rattle.cgs_order.proofs.OrderLemmas.{compared_equal, compared_back, compared_not_self}
 use Rattle.cgs_poly.specs.declared.ring.Ring.{Ring}
-use Rattle.cgs_poly.specs.Polynomial.{Term, places, order_of, total, only, StartsBelow, IsCanonical}
-use Rattle.cgs_poly.specs.Product.{lead, lead_coefficient}
+use Rattle.cgs_poly.specs.Polynomial.{Term, places, order_of, total, indicator, StartsBelow, IsCanonical}
+use Rattle.cgs_poly.specs.Product.{leading_monomial, leading_coefficient}
 use Rattle.cgs_poly.proofs.SumLemmas.{only_same, total_append}
 use Rattle.cgs_poly.proofs.CanonicalLemmas.{above_zero, all_below_zero, all_below_canonical, canonical_of_ring}
 use Rattle.cgs_poly.proofs.MultipleLemmas.{monic_not_empty}
 use Rattle.cgs_algebra.specs.Combination.{Summand, combined, IsCombination, IsMember}
-use Rattle.cgs_algebra.specs.Groebner.{AreMonic, IsMinimal, IsReduced, IsAscending, DividesNone, lead_at}
+use Rattle.cgs_algebra.specs.Groebner.{AreMonic, IsMinimal, IsReduced, IsAscending, DividesNone, leading_monomial_at}
 use Rattle.cgs_algebra.specs.SPolynomial.{LeadsBelow}
 use Rattle.cgs_algebra.proofs.CombinationLemmas.{scaled_summands, total_scaled_summands}
 use Rattle.cgs_algebra.proofs.MemberLemmas.{same_member, sum_member, scaled_member, combined_member}
@@ -30,13 +31,13 @@ use Rattle.cgs_divide.proofs.QuotientCombinationLemmas.{summands_of, division_co
 
 -- a monic polynomial with the lead m
 pub record HasLead (m : List ℕ) (f : List Term) : Type 0 where
-  pub lead_is : lead f ≡ m
-  pub one : lead_coefficient f ≡ 1
+  pub lead_is : leading_monomial f ≡ m
+  pub one : leading_coefficient f ≡ 1
 
 -- a polynomial with the coefficient 1 at m that is below whatever is above m
 lead_found : (ring : Ring) (m : List ℕ) (f : List Term) → 1 < ring.modulus → length m ≡ places ring → IsCanonical ring f
     → ((n : List ℕ) → compared (order_of ring) m n ≡ Less → StartsBelow ring n f)
-    → total (only m) f % ring.modulus ≡ 1 → HasLead m f
+    → total (indicator m) f % ring.modulus ≡ 1 → HasLead m f
 lead_found ring m [] two lm h b v = let z : zero ≡ 1 = sym (zero-mod ring.modulus) ∙ v in absurd (omega arith)
 lead_found ring m (y ∷ f) two lm h b v = by_order (compared (order_of ring) y.exponents m) refl
   where
@@ -47,55 +48,61 @@ lead_found ring m (y ∷ f) two lm h b v = by_order (compared (order_of ring) y.
         absurd (omega arith)
     by_order Equal e =
         let s : y.exponents ≡ m = compared_equal (order_of ring) y.exponents m (h.2 ∙ sym lm) e in
-        let a : total (only m) f ≡ 0 = above_zero ring f m h.4 (subst (λ n. StartsBelow ring n f) s h.3) in
-        let c : total (only m) (y ∷ f) ≡ y.coefficient = rw (s, only_same m, a) (omega arith) in
+        let a : total (indicator m) f ≡ 0 = above_zero ring f m h.4 (subst (λ n. StartsBelow ring n f) s h.3) in
+        let c : total (indicator m) (y ∷ f) ≡ y.coefficient = rw (s, only_same m, a) (omega arith) in
         let w : y.coefficient % ring.modulus ≡ 1 = ap (λ n. n % ring.modulus) (sym c) ∙ v in
         record { lead_is = s; one = sym (mod-eq_of_lt h.1) ∙ w }
 
 module _ (ring : Ring) (pos : 0 < ring.modulus) (D : List (List Term)) (ok : AreMonic ring D) where
   -- multiples of polynomials whose leads do not divide m have leads below m, if they are not above it
-  multiples_below : (m : List ℕ) → length m ≡ places ring → ((j : ℕ) → j < length D → divides (lead_at D j) m ≡ true → ⊥)
+  multiples_below : (m : List ℕ) → length m ≡ places ring → ((j : ℕ) → j < length D → divides (leading_monomial_at D j) m ≡ true → ⊥)
       → (ks : List Summand) → IsCombination ring D ks → ((n : List ℕ) → compared (order_of ring) m n ≡ Less → LeadsBelow ring D n ks) → LeadsBelow ring D m ks
   multiples_below m lm none [] h b = tt
-  multiples_below m lm none (k ∷ ks) h b = (by_order (compared (order_of ring) (product k.monomial (lead_at D k.place)) m) refl, multiples_below m lm none ks h.2 (λ n o. (b n o).1))
+  multiples_below m lm none (k ∷ ks) h b =
+      (by_order (compared (order_of ring) (product k.monomial (leading_monomial_at D k.place)) m) refl, multiples_below m lm none ks h.2 (λ n o. (b n o).1))
     where
-      by_order : (o : Ordering) → compared (order_of ring) (product k.monomial (lead_at D k.place)) m ≡ o
-          → compared (order_of ring) (product k.monomial (lead_at D k.place)) m ≡ Less
+      by_order : (o : Ordering) → compared (order_of ring) (product k.monomial (leading_monomial_at D k.place)) m ≡ o
+          → compared (order_of ring) (product k.monomial (leading_monomial_at D k.place)) m ≡ Less
       by_order Less e = e
       by_order Equal e =
-          let t : List ℕ = product k.monomial (lead_at D k.place) in
-          let l : length t ≡ places ring = product_length k.monomial (lead_at D k.place) (places ring) h.0 (lead_at_length ring D pos ok k.place h.1) in
+          let t : List ℕ = product k.monomial (leading_monomial_at D k.place) in
+          let l : length t ≡ places ring = product_length k.monomial (leading_monomial_at D k.place) (places ring) h.0
+          (lead_at_length ring D pos ok k.place h.1) in
           let s : t ≡ m = compared_equal (order_of ring) t m (l ∙ sym lm) e in
-          absurd (none k.place h.1 (subst (λ n. divides (lead_at D k.place) n ≡ true) s (divides_product k.monomial (lead_at D k.place))))
+          absurd (none k.place h.1 (subst (λ n. divides (leading_monomial_at D k.place) n ≡ true) s
+          (divides_product k.monomial (leading_monomial_at D k.place))))
       by_order Greater e =
-          let t : List ℕ = product k.monomial (lead_at D k.place) in
+          let t : List ℕ = product k.monomial (leading_monomial_at D k.place) in
           absurd (compared_not_self (order_of ring) t (b t (compared_back (order_of ring) t m e)).0)
 
   -- a division by polynomials whose leads do not divide the lead keeps it
   pub lead_kept : 1 < ring.modulus → (x : Term) (f remainder : List Term) (quotients : List (List Term)) → IsCanonical ring (x ∷ f) → x.coefficient ≡ 1
       → HasDivided ring D (x ∷ f) remainder quotients
-      → ((j : ℕ) → j < length D → divides (lead_at D j) x.exponents ≡ true → ⊥) → HasLead x.exponents remainder
+      → ((j : ℕ) → j < length D → divides (leading_monomial_at D j) x.exponents ≡ true → ⊥) → HasLead x.exponents remainder
   lead_kept two x f remainder quotients h one d none =
       let m : List ℕ = x.exponents in
       let ks : List Summand = summands_of quotients in
       let fits = division_combination ring D (x ∷ f) remainder quotients d in
       let below = multiples_below m h.2 none ks fits (λ n o. division_below ring D (x ∷ f) remainder quotients d n o) in
-      let z : total (only m) (combined D ks) ≡ 0 = all_below_zero ring m (combined D ks) (all_below_combined ring D pos ok m ks fits below) in
-      let s : total (only m) (combined D ks ++ remainder) ≡ total (only m) remainder = total_append (only m) (combined D ks) remainder ∙ (ap (λ n. n + total (only m) remainder) z ∙ zero-add (total (only m) remainder)) in
-      let a : total (only m) f ≡ 0 = above_zero ring f m h.4 h.3 in
-      let t : total (only m) (x ∷ f) ≡ 1 = rw (one, only_same m, a) refl in
-      let e = (division_sum ring D (x ∷ f) remainder quotients d pos).under (only m) in
-      let v : total (only m) remainder % ring.modulus ≡ 1 = ap (λ n. n % ring.modulus) (sym s) ∙ (sym e ∙ (ap (λ n. n % ring.modulus) t ∙ mod-eq_of_lt two)) in
+      let z : total (indicator m) (combined D ks) ≡ 0 = all_below_zero ring m (combined D ks) (all_below_combined ring D pos ok m ks fits below) in
+      let s : total (indicator m) (combined D ks ++ remainder) ≡ total (indicator m) remainder =
+      total_append (indicator m) (combined D ks) remainder ∙ (ap (λ n. n + total (indicator m) remainder) z ∙ zero-add (total (indicator m) remainder)) in
+      let a : total (indicator m) f ≡ 0 = above_zero ring f m h.4 h.3 in
+      let t : total (indicator m) (x ∷ f) ≡ 1 = rw (one, only_same m, a) refl in
+      let e = (division_sum ring D (x ∷ f) remainder quotients d pos).under (indicator m) in
+      let v : total (indicator m) remainder % ring.modulus ≡ 1 =
+      ap (λ n. n % ring.modulus) (sym s) ∙ (sym e ∙ (ap (λ n. n % ring.modulus) t ∙ mod-eq_of_lt two)) in
       lead_found ring m remainder two h.2 d.canonical_remainder (λ n o. (d.below n o).1) v
 
-  pub division_keeps_lead : 1 < ring.modulus → (f remainder : List Term) (quotients : List (List Term)) → IsCanonical ring f → lead_coefficient f ≡ 1
-      → HasDivided ring D f remainder quotients → ((j : ℕ) → j < length D → divides (lead_at D j) (lead f) ≡ true → ⊥)
-      → (lead remainder ≡ lead f) × (lead_coefficient remainder ≡ 1)
+  pub division_keeps_lead : 1 < ring.modulus → (f remainder : List Term) (quotients : List (List Term)) → IsCanonical ring f → leading_coefficient f ≡ 1
+      → HasDivided ring D f remainder quotients → ((j : ℕ) → j < length D → divides (leading_monomial_at D j) (leading_monomial f) ≡ true → ⊥)
+      → (leading_monomial remainder ≡ leading_monomial f) × (leading_coefficient remainder ≡ 1)
   division_keeps_lead two [] remainder quotients h one d none = absurd (omega arith)
   division_keeps_lead two (x ∷ f) remainder quotients h one d none = let k = lead_kept two x f remainder quotients h one d none in (k.lead_is, k.one)
 
   -- what is left of a member after a division by members is a member
-  pub remainder_member : (F : List (List Term)) → ((j : ℕ) → j < length D → IsMember ring F (get_or D j [])) → (f remainder : List Term) (quotients : List (List Term))
+  pub remainder_member : (F : List (List Term)) → ((j : ℕ) → j < length D → IsMember ring F (get_or D j []))
+      → (f remainder : List Term) (quotients : List (List Term))
       → HasDivided ring D f remainder quotients
       → IsMember ring F f → IsMember ring F remainder
   remainder_member F inside f remainder quotients d member =
@@ -107,7 +114,8 @@ module _ (ring : Ring) (pos : 0 < ring.modulus) (D : List (List Term)) (ok : Are
       let tm : IsMember ring F T = scaled_member ring F pos (p - 1) S T (λ w. ap (λ n. n % p) (total_scaled_summands w D (p - 1) ks)) sm in
       same_member ring F pos (record {
         under = λ w.
-            let a : total w f % p ≡ (total w S + total w remainder) % p = (division_sum ring D f remainder quotients d pos).under w ∙ ap (λ n. n % p) (total_append w S remainder) in
+            let a : total w f % p ≡ (total w S + total w remainder) % p =
+            (division_sum ring D f remainder quotients d pos).under w ∙ ap (λ n. n % p) (total_append w S remainder) in
             let b : total w (f ++ T) ≡ total w f + (p - 1) * total w S = total_append w f T ∙ ap (λ n. total w f + n) (total_scaled_summands w D (p - 1) ks) in
             sym (ap (λ n. n % p) b ∙ taken_away p (total w f) (total w S) (total w remainder) pos a);
       })
@@ -122,14 +130,15 @@ module _ (ring : Ring) (pos : 0 < ring.modulus) (D : List (List Term)) (ok : Are
           regroup : (s t q : ℕ) → (s + t) + q ≡ t + (s + q)
           regroup s t q = omega arith
 
-module _ (ring : Ring) (F K R : List (List Term)) (two : 1 < ring.modulus) (minimal : IsMinimal ring K F) (monic : AreMonic ring K) (ascending : IsAscending ring K) (long : length R ≡ length K)
+module _ (ring : Ring) (F K R : List (List Term)) (two : 1 < ring.modulus) (minimal : IsMinimal ring K F)
+    (monic : AreMonic ring K) (ascending : IsAscending ring K) (long : length R ≡ length K)
     (steps : (i : ℕ) → i < length K → IsDividedAt ring K R i) where
   pos : 0 < ring.modulus
   pos = omega arith
 
   -- the result at a place has the lead of the member there, and is in the ideal
   abbrev Settled : ℕ → Type 0
-  Settled i = HasLead (lead_at K i) (get_or R i []) × IsMember ring F (get_or R i [])
+  Settled i = HasLead (leading_monomial_at K i) (get_or R i []) × IsMember ring F (get_or R i [])
 
   before_length : (i : ℕ) → i < length K → length (take i R) ≡ i
   before_length i h = omega (arith, length-take i R)
@@ -139,8 +148,9 @@ module _ (ring : Ring) (F K R : List (List Term)) (two : 1 < ring.modulus) (mini
 
   before_monic : (i : ℕ) → i < length K → ((j : ℕ) → j < i → Settled j) → AreMonic ring (take i R)
   before_monic i h ih = record {
-    canonical = λ j l. let s : j < i = omega (arith, before_length i h) in subst (λ q. IsCanonical ring q) (sym (before_at i j s)) (steps j (omega arith)).divided.canonical_remainder;
-    monic = λ j l. let s : j < i = omega (arith, before_length i h) in subst (λ q. lead_coefficient q ≡ 1) (sym (before_at i j s)) (ih j s).0.one;
+    canonical = λ j l. let s : j < i = omega (arith, before_length i h) in
+        subst (λ q. IsCanonical ring q) (sym (before_at i j s)) (steps j (omega arith)).divided.canonical_remainder;
+    monic = λ j l. let s : j < i = omega (arith, before_length i h) in subst (λ q. leading_coefficient q ≡ 1) (sym (before_at i j s)) (ih j s).0.one;
   }
 
   settle : (i : ℕ) → i < length K → ((j : ℕ) → j < i → Settled j) → Settled i
@@ -150,20 +160,22 @@ module _ (ring : Ring) (F K R : List (List Term)) (two : 1 < ring.modulus) (mini
       by_member [] e = absurd (minimal.groebner.not_zero i h (sym e))
       by_member (x ∷ f) e =
           let q : List (List Term) = (steps i h).quotients in
-          let d : HasDivided ring (take i R) (x ∷ f) (get_or R i []) q = subst (λ p. HasDivided ring (take i R) p (get_or R i []) q) (sym e) (steps i h).divided in
+          let d : HasDivided ring (take i R) (x ∷ f) (get_or R i []) q =
+          subst (λ p. HasDivided ring (take i R) p (get_or R i []) q) (sym e) (steps i h).divided in
           let can : IsCanonical ring (x ∷ f) = subst (λ p. IsCanonical ring p) (sym e) (monic.canonical i h) in
-          let one : x.coefficient ≡ 1 = ap lead_coefficient e ∙ monic.monic i h in
-          let kept = lead_kept ring pos (take i R) (before_monic i h ih) two x f (get_or R i []) q can one d (λ j l k. apart (ap lead e) j l k) in
+          let one : x.coefficient ≡ 1 = ap leading_coefficient e ∙ monic.monic i h in
+          let kept = lead_kept ring pos (take i R) (before_monic i h ih) two x f (get_or R i []) q can one d (λ j l k. apart (ap leading_monomial e) j l k) in
           let member : IsMember ring F (x ∷ f) = subst (λ p. IsMember ring F p) (sym e) (minimal.groebner.members i h) in (
-            record { lead_is = kept.lead_is ∙ ap lead e; one = kept.one },
+            record { lead_is = kept.lead_is ∙ ap leading_monomial e; one = kept.one },
             remainder_member ring pos (take i R) (before_monic i h ih) F inside (x ∷ f) (get_or R i []) q d member,
           )
         where
-          apart : x.exponents ≡ lead_at K i → (j : ℕ) → j < length (take i R) → divides (lead_at (take i R) j) x.exponents ≡ true → ⊥
+          apart : x.exponents ≡ leading_monomial_at K i → (j : ℕ) → j < length (take i R) → divides (leading_monomial_at (take i R) j) x.exponents ≡ true → ⊥
           apart at j l k =
               let s : j < i = omega (arith, before_length i h) in
-              let t : lead_at (take i R) j ≡ lead_at K j = ap lead (before_at i j s) ∙ (ih j s).0.lead_is in
-              minimal.apart j i (omega arith) h (λ z. omega arith) (subst (λ n. divides n (lead_at K i) ≡ true) t (subst (λ n. divides (lead_at (take i R) j) n ≡ true) at k))
+              let t : leading_monomial_at (take i R) j ≡ leading_monomial_at K j = ap leading_monomial (before_at i j s) ∙ (ih j s).0.lead_is in
+              minimal.apart j i (omega arith) h (λ z. omega arith)
+              (subst (λ n. divides n (leading_monomial_at K i) ≡ true) t (subst (λ n. divides (leading_monomial_at (take i R) j) n ≡ true) at k))
 
           inside : (j : ℕ) → j < length (take i R) → IsMember ring F (get_or (take i R) j [])
           inside j l = let s : j < i = omega (arith, before_length i h) in subst (λ p. IsMember ring F p) (sym (before_at i j s)) (ih j s).1
@@ -178,7 +190,7 @@ module _ (ring : Ring) (F K R : List (List Term)) (two : 1 < ring.modulus) (mini
   within : (i : ℕ) → i < length R → i < length K
   within i h = omega (arith, long)
 
-  lead_same : (i : ℕ) → i < length K → lead_at R i ≡ lead_at K i
+  lead_same : (i : ℕ) → i < length K → leading_monomial_at R i ≡ leading_monomial_at K i
   lead_same i h = (settled i h).0.lead_is
 
   result_ascending : IsAscending ring R
@@ -195,27 +207,31 @@ module _ (ring : Ring) (F K R : List (List Term)) (two : 1 < ring.modulus) (mini
       not_zero = λ i h. monic_not_empty (get_or R i []) (settled i (within i h)).0.one;
       leads = λ f k member some.
           let i = minimal.groebner.leads f k member some in
-          (i.0, omega (arith, long, i.1), subst (λ n. divides n (lead f) ≡ true) (sym (lead_same i.0 i.1)) i.2);
+          (i.0, omega (arith, long, i.1), subst (λ n. divides n (leading_monomial f) ≡ true) (sym (lead_same i.0 i.1)) i.2);
     };
     apart = λ i j hi hj n d.
-        let e : divides (lead_at R i) (lead_at K j) ≡ true = subst (λ q. divides (lead_at R i) q ≡ true) (lead_same j (within j hj)) d in
-        minimal.apart i j (within i hi) (within j hj) n (subst (λ q. divides q (lead_at K j) ≡ true) (lead_same i (within i hi)) e);
+        let e : divides (leading_monomial_at R i) (leading_monomial_at K j) ≡ true =
+        subst (λ q. divides (leading_monomial_at R i) q ≡ true) (lead_same j (within j hj)) d in
+        minimal.apart i j (within i hi) (within j hj) n (subst (λ q. divides q (leading_monomial_at K j) ≡ true) (lead_same i (within i hi)) e);
   }
 
   -- an earlier lead divides no monomial of a remainder, and a later one is above all of them
-  result_clear : (i j : ℕ) → i < length R → j < length R → (i ≡ j) ⊎ ((i < j) ⊎ (j < i)) → (i ≡ j → ⊥) → DividesNone (lead_at R i) (get_or R j [])
+  result_clear : (i j : ℕ) → i < length R → j < length R → (i ≡ j) ⊎ ((i < j) ⊎ (j < i)) → (i ≡ j → ⊥) → DividesNone (leading_monomial_at R i) (get_or R j [])
   result_clear i j hi hj (inl e) n = absurd (n e)
   result_clear i j hi hj (inr (inl l)) n =
-      subst (λ q. DividesNone (lead q) (get_or R j [])) (before_at j i l) ((steps j (within j hj)).divided.undivided i (omega (arith, before_length j (within j hj))))
+      subst (λ q. DividesNone (leading_monomial q) (get_or R j [])) (before_at j i l)
+      ((steps j (within j hj)).divided.undivided i (omega (arith, before_length j (within j hj))))
   result_clear i j hi hj (inr (inr l)) n =
       let g : List Term = get_or R j [] in
       let can : IsCanonical ring g = result_monic.canonical j hj in
-      let o : compared (order_of ring) (lead_at R j) (lead_at R i) ≡ Less = ascending_at ring R result_ascending j i l hi in
-      divides_none_below ring (lead_at R i) g (lead_at_length ring R pos result_monic i hi) (canonical_of_ring ring g can) (all_below_canonical ring (lead_at R i) g can (starts (lead_at R i) g o))
+      let o : compared (order_of ring) (leading_monomial_at R j) (leading_monomial_at R i) ≡ Less = ascending_at ring R result_ascending j i l hi in
+      divides_none_below ring (leading_monomial_at R i) g (lead_at_length ring R pos result_monic i hi) (canonical_of_ring ring g can)
+      (all_below_canonical ring (leading_monomial_at R i) g can (starts (leading_monomial_at R i) g o))
     where
-      starts : (m : List ℕ) (f : List Term) → compared (order_of ring) (lead f) m ≡ Less → StartsBelow ring m f
+      starts : (m : List ℕ) (f : List Term) → compared (order_of ring) (leading_monomial f) m ≡ Less → StartsBelow ring m f
       starts m [] o = tt
       starts m (x ∷ f) o = o
 
   pub autoreduced : IsReduced ring R F × IsAscending ring R
-  autoreduced = (record { minimal = result_minimal; monic = result_monic; reduced = λ i j hi hj n. result_clear i j hi hj (cases_order i j) n }, result_ascending)
+  autoreduced =
+      (record { minimal = result_minimal; monic = result_monic; reduced = λ i j hi hj n. result_clear i j hi hj (cases_order i j) n }, result_ascending)

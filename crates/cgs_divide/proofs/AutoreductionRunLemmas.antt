@@ -1,13 +1,14 @@
 -- An autoreduction that ends: each member that is kept was divided by the results before it.
-use Rattle.std.proofs.Common.{ℕ, suc, ◌≡◌, ◌+◌, ◌<◌, ◌≤◌, ◌⊎◌, inl, inr, true, List, [], ◌∷◌, ◌++◌, length, get_or, take, drop, add-one, refl, sym, ap, ◌∙◌, subst, arith}
+use Rattle.std.proofs.Common.{ℕ, suc, ◌≡◌, ◌+◌, ◌<◌, ◌≤◌, ◌⊎◌, inl, inr, true, List, [], ◌∷◌, ◌++◌, length, get_or, take, drop, add-one, refl, sym, ap, ◌∙◌}
+use Rattle.std.proofs.Common.{subst, arith}
 use Rattle.std.proofs.lemmas.Bool.{cases_order}
 use Rattle.std.proofs.Math.Seq.{drop-cons, get_or-append_seam, take-append_seam}
 use Rattle.std.proofs.lemmas.List.{length-append, get_or_append_left, take-append-le}
 use Rattle.cgs_exps.specs.Monomial.{divides}
 use Rattle.cgs_poly.specs.declared.ring.Ring.{Ring}
 use Rattle.cgs_poly.specs.Polynomial.{Term, IsRing, IsCanonical}
-use Rattle.cgs_poly.specs.Product.{lead, lead_coefficient}
-use Rattle.cgs_algebra.specs.Groebner.{AreMonic, IsGroebnerBasis, IsReduced, IsAscending, lead_at}
+use Rattle.cgs_poly.specs.Product.{leading_monomial, leading_coefficient}
+use Rattle.cgs_algebra.specs.Groebner.{AreMonic, IsGroebnerBasis, IsReduced, IsAscending, leading_monomial_at}
 use Rattle.cgs_divide.specs.DivisionRun as division
 use Rattle.cgs_divide.specs.Division.{HasDivided}
 use Rattle.cgs_divide.specs.Autoreduction.{IsDividedAt}
@@ -26,7 +27,8 @@ pub record WentOn (run : division.Run) (next : List Term → ℕ → ListRun) (S
   pub divided : run ≡ division.done remainder quotients units
   pub rest : next remainder units ≡ done S left
 
-pub went_on : (run : division.Run) (next : List Term → ℕ → ListRun) (S : List (List Term)) (left : ℕ) → after_division run next ≡ done S left → WentOn run next S left
+pub went_on : (run : division.Run) (next : List Term → ℕ → ListRun) (S : List (List Term)) (left : ℕ)
+    → after_division run next ≡ done S left → WentOn run next S left
 went_on (division.done r q u) next S left e = record { remainder = r; quotients = q; units = u; divided = refl; rest = e }
 went_on (division.out_of_budget u) next S left e = absurd (cc)
 went_on (division.out_of_degree u) next S left e = absurd (cc)
@@ -34,58 +36,64 @@ went_on (division.out_of_degree u) next S left e = absurd (cc)
 -- results so far, for the first members
 pub record AreResults (ring : Ring) (A R : List (List Term)) : Type 0 where
   pub within : length R ≤ length A
-  pub leads : (i : ℕ) → i < length R → HasLead (lead_at A i) (get_or R i [])
+  pub leads : (i : ℕ) → i < length R → HasLead (leading_monomial_at A i) (get_or R i [])
   pub steps : (i : ℕ) → i < length R → IsDividedAt ring A R i
 
 module _ (ring : Ring) (r : IsRing ring) (two : 1 < ring.modulus) (A : List (List Term)) (monic : AreMonic ring A)
-    (apart : (i j : ℕ) → i < length A → j < length A → (i ≡ j → ⊥) → divides (lead_at A i) (lead_at A j) ≡ true → ⊥) where
+    (apart : (i j : ℕ) → i < length A → j < length A → (i ≡ j → ⊥) → divides (leading_monomial_at A i) (leading_monomial_at A j) ≡ true → ⊥) where
   pos : 0 < ring.modulus
   pos = omega arith
 
-  pub results_monic : (R : List (List Term)) → AreResults ring A R → AreMonic ring R
+  results_monic : (R : List (List Term)) → AreResults ring A R → AreMonic ring R
   results_monic R h = record { canonical = λ i l. (h.steps i l).divided.canonical_remainder; monic = λ i l. (h.leads i l).one }
 
   -- the result of the next member
   pub record IsNext (R : List (List Term)) (f remainder : List Term) : Type 0 where
     pub quotients : List (List Term)
     pub divided : HasDivided ring R f remainder quotients
-    pub leads : HasLead (lead f) remainder
+    pub leads : HasLead (leading_monomial f) remainder
 
-  pub next_found : (R : List (List Term)) (f remainder : List Term) (quotients : List (List Term)) (units left : ℕ) → AreResults ring A R → length R < length A → get_or A (length R) [] ≡ f
+  next_found : (R : List (List Term)) (f remainder : List Term) (quotients : List (List Term)) (units left : ℕ)
+      → AreResults ring A R → length R < length A → get_or A (length R) [] ≡ f
       → division.divided ring R units f ≡ division.done remainder quotients left → IsNext R f remainder
   next_found R [] remainder quotients units left h l e d =
-      let z : lead_coefficient [] ≡ 1 = ap lead_coefficient (sym e) ∙ monic.monic (length R) l in absurd (omega arith)
+      let z : leading_coefficient [] ≡ 1 = ap leading_coefficient (sym e) ∙ monic.monic (length R) l in absurd (omega arith)
   next_found R (x ∷ f) remainder quotients units left h l e d =
       let can : IsCanonical ring (x ∷ f) = subst (λ q. IsCanonical ring q) e (monic.canonical (length R) l) in
-      let one : x.coefficient ≡ 1 = ap lead_coefficient (sym e) ∙ monic.monic (length R) l in
+      let one : x.coefficient ≡ 1 = ap leading_coefficient (sym e) ∙ monic.monic (length R) l in
       let ok : AreMonic ring R = results_monic R h in
       let found : HasDivided ring R (x ∷ f) remainder quotients = divided_divides ring R pos ok units left (x ∷ f) remainder quotients can d in
       record {
         quotients = quotients;
         divided = found;
         leads = lead_kept ring pos R ok two x f remainder quotients can one found (λ j k n.
-            let s : divides (lead_at A j) (lead_at A (length R)) ≡ true = subst (λ m. divides m (lead_at A (length R)) ≡ true) (h.leads j k).lead_is (subst (λ m. divides (lead_at R j) m ≡ true) (sym (ap lead e)) n) in
+            let s : divides (leading_monomial_at A j) (leading_monomial_at A (length R)) ≡ true =
+            subst (λ m. divides m (leading_monomial_at A (length R)) ≡ true) (h.leads j k).lead_is
+            (subst (λ m. divides (leading_monomial_at R j) m ≡ true) (sym (ap leading_monomial e)) n) in
             apart j (length R) (omega arith) l (λ z. omega arith) s);
       }
 
   -- it is monic already
-  pub next_monic : (R : List (List Term)) (f remainder : List Term) → IsNext R f remainder → monic_of ring remainder ≡ remainder
-  next_monic R f [] h = let z : lead_coefficient [] ≡ 1 = h.leads.one in absurd (omega arith)
+  next_monic : (R : List (List Term)) (f remainder : List Term) → IsNext R f remainder → monic_of ring remainder ≡ remainder
+  next_monic R f [] h = let z : leading_coefficient [] ≡ 1 = h.leads.one in absurd (omega arith)
   next_monic R f (y ∷ remainder) h = monic_itself ring r y remainder h.divided.canonical_remainder h.leads.one
 
-  pub more_results : (R : List (List Term)) (f remainder : List Term) → AreResults ring A R → length R < length A → get_or A (length R) [] ≡ f → IsNext R f remainder → AreResults ring A (R ++ remainder ∷ [])
+  more_results : (R : List (List Term)) (f remainder : List Term) → AreResults ring A R → length R < length A
+      → get_or A (length R) [] ≡ f → IsNext R f remainder → AreResults ring A (R ++ remainder ∷ [])
   more_results R f remainder h l e n = record {
     within = omega (arith, length-append R (remainder ∷ []));
     leads = λ i k. by_place i (omega (arith, length-append R (remainder ∷ []))) (cases_order i (length R));
     steps = λ i k. step_at i (omega (arith, length-append R (remainder ∷ []))) (cases_order i (length R));
   }
     where
-      last : HasLead (lead_at A (length R)) (get_or (R ++ remainder ∷ []) (length R) [])
-      last = subst (λ q. HasLead (lead_at A (length R)) q) (sym (get_or-append_seam R remainder [] [])) (subst (λ m. HasLead m remainder) (sym (ap lead e)) n.leads)
+      last : HasLead (leading_monomial_at A (length R)) (get_or (R ++ remainder ∷ []) (length R) [])
+      last = subst (λ q. HasLead (leading_monomial_at A (length R)) q) (sym (get_or-append_seam R remainder [] []))
+          (subst (λ m. HasLead m remainder) (sym (ap leading_monomial e)) n.leads)
 
-      by_place : (i : ℕ) → i ≤ length R → (i ≡ length R) ⊎ ((i < length R) ⊎ (length R < i)) → HasLead (lead_at A i) (get_or (R ++ remainder ∷ []) i [])
-      by_place i b (inl s) = subst (λ j. HasLead (lead_at A j) (get_or (R ++ remainder ∷ []) j [])) (sym s) last
-      by_place i b (inr (inl k)) = subst (λ q. HasLead (lead_at A i) q) (sym (get_or_append_left R (remainder ∷ []) [] i k)) (h.leads i k)
+      by_place : (i : ℕ) → i ≤ length R → (i ≡ length R) ⊎ ((i < length R) ⊎ (length R < i))
+          → HasLead (leading_monomial_at A i) (get_or (R ++ remainder ∷ []) i [])
+      by_place i b (inl s) = subst (λ j. HasLead (leading_monomial_at A j) (get_or (R ++ remainder ∷ []) j [])) (sym s) last
+      by_place i b (inr (inl k)) = subst (λ q. HasLead (leading_monomial_at A i) q) (sym (get_or_append_left R (remainder ∷ []) [] i k)) (h.leads i k)
       by_place i b (inr (inr k)) = absurd (omega arith)
 
       last_step : IsDividedAt ring A (R ++ remainder ∷ []) (length R)
@@ -97,31 +105,39 @@ module _ (ring : Ring) (r : IsRing ring) (two : 1 < ring.modulus) (A : List (Lis
       step_at i b (inl s) = subst (λ j. IsDividedAt ring A (R ++ remainder ∷ []) j) (sym s) last_step
       step_at i b (inr (inl k)) =
           let o = h.steps i k in
-          record { quotients = o.quotients; divided = rw (take-append-le i R (remainder ∷ []) (omega arith), get_or_append_left R (remainder ∷ []) [] i k) o.divided }
+          record {
+            quotients = o.quotients;
+            divided =
+                rw (take-append-le i R (remainder ∷ []) (omega arith), get_or_append_left R (remainder ∷ []) [] i k) o.divided;
+          }
       step_at i b (inr (inr k)) = absurd (omega arith)
 
   -- the run goes on with the next member
 
   -- what follows the division of the member at a place
-  abbrev pub next_run : List (List Term) → ℕ → List Term → ℕ → ListRun
+  abbrev next_run : List (List Term) → ℕ → List Term → ℕ → ListRun
   next_run R n remainder left = reduced_after ring (R ++ monic_of ring remainder ∷ []) (drop (suc n) A) left
 
-  run_step : (R : List (List Term)) (n units : ℕ) → n < length A → reduced_after ring R (drop n A) units ≡ after_division (division.divided ring R units (get_or A n [])) (next_run R n)
+  run_step : (R : List (List Term)) (n units : ℕ) → n < length A
+      → reduced_after ring R (drop n A) units ≡ after_division (division.divided ring R units (get_or A n [])) (next_run R n)
   run_step R n units l = ap (λ K. reduced_after ring R K units) (drop-cons A n [] l)
 
   pub run_stops : (R : List (List Term)) (n units : ℕ) (run : division.Run) → n < length A → division.divided ring R units (get_or A n []) ≡ run
       → reduced_after ring R (drop n A) units ≡ after_division run (next_run R n)
   run_stops R n units run l e = run_step R n units l ∙ ap (λ q. after_division q (next_run R n)) e
 
-  pub run_goes_on : (R : List (List Term)) (n units left : ℕ) (remainder : List Term) (quotients : List (List Term)) → AreResults ring A R → length R ≡ n → n < length A
+  pub run_goes_on : (R : List (List Term)) (n units left : ℕ) (remainder : List Term) (quotients : List (List Term))
+      → AreResults ring A R → length R ≡ n → n < length A
       → division.divided ring R units (get_or A n []) ≡ division.done remainder quotients left
       → (reduced_after ring R (drop n A) units ≡ reduced_after ring (R ++ remainder ∷ []) (drop (n + 1) A) left) × AreResults ring A (R ++ remainder ∷ [])
   run_goes_on R n units left remainder quotients h c l e =
       let k : length R < length A = omega arith in
       let at : get_or A (length R) [] ≡ get_or A n [] = ap (λ j. get_or A j []) c in
       let m = next_found R (get_or A n []) remainder quotients units left h k at e in
-      let s = run_stops R n units (division.done remainder quotients left) l e in
-      (rw add-one (s ∙ ap (λ q. reduced_after ring (R ++ q ∷ []) (drop (suc n) A) left) (next_monic R (get_or A n []) remainder m)), more_results R (get_or A n []) remainder h k at m)
+      let s = run_stops R n units (division.done remainder quotients left) l e in (
+        rw add-one (s ∙ ap (λ q. reduced_after ring (R ++ q ∷ []) (drop (suc n) A) left) (next_monic R (get_or A n []) remainder m)),
+        more_results R (get_or A n []) remainder h k at m,
+      )
 
   -- the members from the place of the next result on
   abbrev Follows : List (List Term) → List (List Term) → Type 0
@@ -138,7 +154,8 @@ module _ (ring : Ring) (r : IsRing ring) (two : 1 < ring.modulus) (A : List (Lis
   next_at : (R K : List (List Term)) (f : List Term) → Follows R (f ∷ K) → get_or A (length R) [] ≡ f
   next_at R K f h = let e : length R + 0 ≡ length R = omega arith in ap (λ n. get_or A n []) (sym e) ∙ h.1 0 (omega arith)
 
-  run_divides : (K R S : List (List Term)) (units left : ℕ) → AreResults ring A R → Follows R K → reduced_after ring R K units ≡ done S left → AreResults ring A S × (length S ≡ length A)
+  run_divides : (K R S : List (List Term)) (units left : ℕ) → AreResults ring A R → Follows R K
+      → reduced_after ring R K units ≡ done S left → AreResults ring A S × (length S ≡ length A)
   run_divides [] R S units left h k e =
       let s : R ≡ S = cc in
       let l : length S ≡ length R = ap length (sym s) in
@@ -163,7 +180,8 @@ autoreduction_divides ring G R units left r two ok e =
     (omega arith, λ j l. let z : 0 + j ≡ j = omega arith in ap (λ n. get_or K n []) z) e
 
 -- the answer for a Gröbner basis is the reduced one, with ascending leads
-pub autoreduction_reduces : (ring : Ring) (G F R : List (List Term)) (units left : ℕ) → IsRing ring → 1 < ring.modulus → AreMonic ring G → IsGroebnerBasis ring G F
+pub autoreduction_reduces : (ring : Ring) (G F R : List (List Term)) (units left : ℕ)
+    → IsRing ring → 1 < ring.modulus → AreMonic ring G → IsGroebnerBasis ring G F
     → autoreduction ring G units ≡ done R left → IsReduced ring R F × IsAscending ring R
 autoreduction_reduces ring G F R units left r two ok basis e =
     let pos : 0 < ring.modulus = omega arith in

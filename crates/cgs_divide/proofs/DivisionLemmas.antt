@@ -1,5 +1,6 @@
 -- What a division run that ends with a remainder has found.
-use Rattle.std.proofs.Common.{ℕ, zero, suc, ◌≡◌, ◌+◌, ◌-◌, ◌*◌, ◌%◌, ◌<◌, ◌≤◌, ◌⊎◌, inl, inr, Bool, true, false, cond, ltb, List, [], ◌∷◌, ◌++◌, length, get_or, refl, sym, ap, ◌∙◌, subst, arith}
+use Rattle.std.proofs.Common.{ℕ, zero, suc, ◌≡◌, ◌+◌, ◌-◌, ◌*◌, ◌%◌, ◌<◌, ◌≤◌, ◌⊎◌, inl, inr, Bool, true, false, cond, ltb, List, [], ◌∷◌, ◌++◌, length, get_or}
+use Rattle.std.proofs.Common.{refl, sym, ap, ◌∙◌, subst, arith}
 use Rattle.std.proofs.Math.Nat.{zero-mod, add-zero, mul-mod_right, mul-one}
 use Rattle.std.proofs.lemmas.Bool.{ltb-true, ltb-false, cases_eq}
 use Rattle.std.specs.declared.cmp.Ordering.TheVariants.{Less}
@@ -9,17 +10,20 @@ use Rattle.cgs_exps.proofs.MonomialLemmas.{product_comm, quotient_product, quoti
 use Rattle.cgs_order.specs.TermOrder.{compared}
 use Rattle.cgs_poly.specs.declared.ring.Ring.{Ring}
 use Rattle.cgs_poly.specs.Polynomial.{Term, term, places, order_of, total, IsOfRing, StartsBelow, IsCanonical, HasLowDegrees, greatest_degree}
-use Rattle.cgs_poly.specs.Product.{multiple, lead, lead_coefficient}
+use Rattle.cgs_poly.specs.Product.{multiple, leading_monomial, leading_coefficient}
 use Rattle.cgs_poly.proofs.SumLemmas.{alike_same, alike_from_coefficients, coefficients_from_alike, total_append}
-use Rattle.cgs_poly.proofs.CanonicalLemmas.{all_below_canonical, AllBelow, all_below_append, canonical_of_ring, is_canonical, canonical_alike, canonical_same, canonical_starts, canonical_low, append_of_ring, append_low, starts_lower}
+use Rattle.cgs_poly.proofs.CanonicalLemmas.{all_below_canonical, AllBelow, all_below_append, canonical_of_ring, is_canonical, canonical_alike, canonical_same}
+use Rattle.cgs_poly.proofs.CanonicalLemmas.{canonical_starts, canonical_low, append_of_ring, append_low, starts_lower}
 use Rattle.cgs_poly.proofs.ProductLemmas.{total_multiple, multiple_of_ring, low_any}
 use Rattle.cgs_poly.proofs.MultipleLemmas.{multiple_falls}
 use Rattle.cgs_poly.proofs.ProductOrderLemmas.{compared_shift}
-use Rattle.cgs_algebra.specs.Groebner.{AreMonic, lead_at}
+use Rattle.cgs_algebra.specs.Groebner.{AreMonic, leading_monomial_at}
 use Rattle.cgs_algebra.proofs.RepresentationLemmas.{lead_at_length}
-use Rattle.cgs_divide.specs.DivisionRun.{Run, done, out_of_budget, out_of_degree, first_divisor, is_too_high, less_multiple, charged, with_remainder, with_quotient, added_at, divided_in, divided}
+use Rattle.cgs_divide.specs.DivisionRun.{Run, done, out_of_budget, out_of_degree, first_divisor, is_too_high, less_multiple, charged, with_remainder}
+use Rattle.cgs_divide.specs.DivisionRun.{with_quotient, added_at, divided_in, divided}
 use Rattle.cgs_divide.specs.Division.{products, TermsBelow, HasDivided}
-use Rattle.cgs_divide.proofs.QuotientLemmas.{divisor_divides, none_divides, not_too_high, added_length, added_here, added_elsewhere, total_added, below_added, below_at, zeros, zeros_length, zeros_at, zeros_products, zeros_below}
+use Rattle.cgs_divide.proofs.QuotientLemmas.{divisor_divides, none_divides, not_too_high, added_length, added_here, added_elsewhere, total_added, below_added}
+use Rattle.cgs_divide.proofs.QuotientLemmas.{below_at, zeros, zeros_length, zeros_at, zeros_products, zeros_below}
 
 -- f - c*t*g
 
@@ -31,7 +35,8 @@ mod_rest p c x h = ap (λ n. n % p) (whole c (p - c) p x (omega arith)) ∙ mul-
     whole c d p x e = rw (← e) (omega arith)
 
 -- f is c*t*g and what is left
-total_less : (w : List ℕ → ℕ) (p c : ℕ) (t : List ℕ) (f g : List Term) → c < p → total w f % p ≡ (total w (multiple c t g) + total w (f ++ multiple (p - c) t g)) % p
+total_less : (w : List ℕ → ℕ) (p c : ℕ) (t : List ℕ) (f g : List Term) → c < p
+    → total w f % p ≡ (total w (multiple c t g) + total w (f ++ multiple (p - c) t g)) % p
 total_less w p c t f g h =
     let T : ℕ = total (λ m. w (product t m)) g in
     let F : ℕ = total w f in
@@ -39,12 +44,15 @@ total_less w p c t f g h =
     let b : total w (multiple c t g) + total w (f ++ multiple (p - c) t g) ≡ F + (c * T + (p - c) * T) = omega (arith, a, total_multiple w c t g) in
     sym (ap (λ n. n % p) b ∙ (mod_add p F F (c * T + (p - c) * T) 0 refl (mod_rest p c T h ∙ sym (zero-mod p)) ∙ ap (λ n. n % p) (add-zero F)))
 
-less_of_ring : (ring : Ring) (d : ℕ) (t : List ℕ) (f g : List Term) → length t ≡ places ring → IsCanonical ring f → IsCanonical ring g → IsOfRing ring (f ++ multiple d t g)
-less_of_ring ring d t f g l h k = append_of_ring ring f (multiple d t g) (canonical_of_ring ring f h) (multiple_of_ring ring d t g l (canonical_of_ring ring g k))
+less_of_ring : (ring : Ring) (d : ℕ) (t : List ℕ) (f g : List Term) → length t ≡ places ring
+    → IsCanonical ring f → IsCanonical ring g → IsOfRing ring (f ++ multiple d t g)
+less_of_ring ring d t f g l h k =
+    append_of_ring ring f (multiple d t g) (canonical_of_ring ring f h) (multiple_of_ring ring d t g l (canonical_of_ring ring g k))
 
 -- where g is monic and its multiple takes the leading term of f, the rest starts below that
-less_starts : (ring : Ring) (x : Term) (f g : List Term) (t : List ℕ) → 0 < ring.modulus → IsCanonical ring (x ∷ f) → IsCanonical ring g → lead_coefficient g ≡ 1
-    → length t ≡ places ring → product t (lead g) ≡ x.exponents
+less_starts : (ring : Ring) (x : Term) (f g : List Term) (t : List ℕ) → 0 < ring.modulus
+    → IsCanonical ring (x ∷ f) → IsCanonical ring g → leading_coefficient g ≡ 1
+    → length t ≡ places ring → product t (leading_monomial g) ≡ x.exponents
     → StartsBelow ring x.exponents (less_multiple ring (x ∷ f) x.coefficient t g)
 less_starts ring x f [] t pos h k o l e = absurd (omega arith)
 less_starts ring x f (z ∷ g) t pos h k o l e =
@@ -52,20 +60,25 @@ less_starts ring x f (z ∷ g) t pos h k o l e =
     let of_ring : IsOfRing ring (f ++ multiple d t g) = less_of_ring ring d t f g l h.4 k.4 in
     let whole : IsOfRing ring ((x ∷ f) ++ multiple d t (z ∷ g)) = less_of_ring ring d t (x ∷ f) (z ∷ g) l h k in
     let tail : AllBelow ring x.exponents (multiple d t g) = subst (λ n. AllBelow ring n (multiple d t g)) e (multiple_falls ring d t z g l k) in
-    let below : AllBelow ring x.exponents (f ++ multiple d t g) = all_below_append ring x.exponents f (multiple d t g) (all_below_canonical ring x.exponents f h.4 h.3) tail in
+    let below : AllBelow ring x.exponents (f ++ multiple d t g) =
+    all_below_append ring x.exponents f (multiple d t g) (all_below_canonical ring x.exponents f h.4 h.3) tail in
     let same = canonical_same ring (f ++ multiple d t g) ((x ∷ f) ++ multiple d t (z ∷ g)) pos of_ring whole (record { under = λ w. cancelled w }) in
     subst (λ q. StartsBelow ring x.exponents q) same (canonical_starts ring x.exponents (f ++ multiple d t g) pos of_ring below)
   where
     cancelled : (w : List ℕ → ℕ)
-        → total w (f ++ multiple (ring.modulus - x.coefficient) t g) % ring.modulus ≡ total w ((x ∷ f) ++ multiple (ring.modulus - x.coefficient) t (z ∷ g)) % ring.modulus
+        → total w (f ++ multiple (ring.modulus - x.coefficient) t g) % ring.modulus
+        ≡ total w ((x ∷ f) ++ multiple (ring.modulus - x.coefficient) t (z ∷ g)) % ring.modulus
     cancelled w =
         let d : ℕ = ring.modulus - x.coefficient in
         let S : ℕ = total w (f ++ multiple d t g) in
         let v : ℕ = w x.exponents in
         let a : d * z.coefficient ≡ d = ap (λ n. d * n) o ∙ mul-one d in
         let u : (d * z.coefficient) * w (product t z.exponents) ≡ d * v = rw (a, e) refl in
-        let b : total w ((x ∷ f) ++ multiple d t (z ∷ g)) ≡ S + (x.coefficient * v + d * v) = omega (arith, u, total_append w f (multiple d t g), total_append w f (multiple d t (z ∷ g))) in
-        sym (ap (λ n. n % ring.modulus) b ∙ (mod_add ring.modulus S S (x.coefficient * v + d * v) 0 refl (mod_rest ring.modulus x.coefficient v h.1 ∙ sym (zero-mod ring.modulus)) ∙ ap (λ n. n % ring.modulus) (add-zero S)))
+        let b : total w ((x ∷ f) ++ multiple d t (z ∷ g)) ≡ S + (x.coefficient * v + d * v) =
+        omega (arith, u, total_append w f (multiple d t g), total_append w f (multiple d t (z ∷ g))) in
+        sym (ap (λ n. n % ring.modulus) b
+        ∙ (mod_add ring.modulus S S (x.coefficient * v + d * v) 0 refl (mod_rest ring.modulus x.coefficient v h.1 ∙ sym (zero-mod ring.modulus))
+        ∙ ap (λ n. n % ring.modulus) (add-zero S)))
 
 -- the ways a run ends with a remainder
 
@@ -79,7 +92,8 @@ remainder_of x (done r q u) remainder quotients left e = (r, cc, cc)
 remainder_of x (out_of_budget u) remainder quotients left e = absurd (cc)
 remainder_of x (out_of_degree u) remainder quotients left e = absurd (cc)
 
-quotients_of : (i : ℕ) (x : Term) (run : Run) (remainder : List Term) (quotients : List (List Term)) (left : ℕ) → with_quotient i x run ≡ done remainder quotients left
+quotients_of : (i : ℕ) (x : Term) (run : Run) (remainder : List Term) (quotients : List (List Term)) (left : ℕ)
+    → with_quotient i x run ≡ done remainder quotients left
     → (rest : List (List Term)) × (run ≡ done remainder rest left) × (added_at i x rest ≡ quotients)
 quotients_of i x (done r q u) remainder quotients left e = (q, cc, cc)
 quotients_of i x (out_of_budget u) remainder quotients left e = absurd (cc)
@@ -109,7 +123,8 @@ module _ (ring : Ring) (G : List (List Term)) (pos : 0 < ring.modulus) (ok : Are
           let a = (alike_from_coefficients pos d.sum).under w in
           let b : x.coefficient * w x.exponents + total w (products quotients G ++ remainder) ≡ total w (products quotients G ++ x ∷ remainder) =
           omega (arith, total_append w (products quotients G) remainder, total_append w (products quotients G) (x ∷ remainder)) in
-          mod_add ring.modulus (x.coefficient * w x.exponents) (x.coefficient * w x.exponents) (total w f) (total w (products quotients G ++ remainder)) refl a ∙ ap (λ n. n % ring.modulus) b;
+          mod_add ring.modulus (x.coefficient * w x.exponents) (x.coefficient * w x.exponents) (total w f) (total w (products quotients G ++ remainder)) refl a
+          ∙ ap (λ n. n % ring.modulus) b;
     });
     undivided = λ i l. (none_divides G x.exponents none i l, d.undivided i l);
     below = λ m s. ((d.below m (starts_lower ring x.exponents m f h.3 s)).0, s);
@@ -120,13 +135,13 @@ module _ (ring : Ring) (G : List (List Term)) (pos : 0 < ring.modulus) (ok : Are
   }
 
 module _ (ring : Ring) (G : List (List Term)) (pos : 0 < ring.modulus) (ok : AreMonic ring G) (x : Term) (f : List Term) (h : IsCanonical ring (x ∷ f))
-    (i : ℕ) (l : i < length G) (divisible : divides (lead_at G i) x.exponents ≡ true) where
+    (i : ℕ) (l : i < length G) (divisible : divides (leading_monomial_at G i) x.exponents ≡ true) where
   -- the divisor, the monomial of its multiple, the term of the quotient, and what is left of x + f
   abbrev g : List Term
   g = get_or G i []
 
   abbrev t : List ℕ
-  t = quotient x.exponents (lead g)
+  t = quotient x.exponents (leading_monomial g)
 
   abbrev y : Term
   y = term x.coefficient t
@@ -134,37 +149,38 @@ module _ (ring : Ring) (G : List (List Term)) (pos : 0 < ring.modulus) (ok : Are
   abbrev rest : List Term
   rest = less_multiple ring (x ∷ f) x.coefficient t g
 
-  lead_long : length (lead g) ≡ places ring
+  lead_long : length (leading_monomial g) ≡ places ring
   lead_long = lead_at_length ring G pos ok i l
 
   t_long : length t ≡ places ring
-  t_long = quotient_length x.exponents (lead g) (places ring) h.2 lead_long
+  t_long = quotient_length x.exponents (leading_monomial g) (places ring) h.2 lead_long
 
-  whole : product t (lead g) ≡ x.exponents
-  whole = quotient_product x.exponents (lead g) (h.2 ∙ sym lead_long) divisible
+  whole : product t (leading_monomial g) ≡ x.exponents
+  whole = quotient_product x.exponents (leading_monomial g) (h.2 ∙ sym lead_long) divisible
 
-  pub rest_of_ring : IsOfRing ring ((x ∷ f) ++ multiple (ring.modulus - x.coefficient) t g)
+  rest_of_ring : IsOfRing ring ((x ∷ f) ++ multiple (ring.modulus - x.coefficient) t g)
   rest_of_ring = less_of_ring ring (ring.modulus - x.coefficient) t (x ∷ f) g t_long h (ok.canonical i l)
 
-  pub rest_canonical : IsCanonical ring rest
+  rest_canonical : IsCanonical ring rest
   rest_canonical = is_canonical ring ((x ∷ f) ++ multiple (ring.modulus - x.coefficient) t g) pos rest_of_ring
 
-  pub rest_starts : StartsBelow ring x.exponents rest
+  rest_starts : StartsBelow ring x.exponents rest
   rest_starts = less_starts ring x f g t pos h (ok.canonical i l) (ok.monic i l) t_long whole
 
   rest_low : is_too_high (multiple x.coefficient t g) ≡ false → HasLowDegrees (x ∷ f) → HasLowDegrees rest
   rest_low low k =
       canonical_low ring ((x ∷ f) ++ multiple (ring.modulus - x.coefficient) t g)
-      (append_low (x ∷ f) (multiple (ring.modulus - x.coefficient) t g) k (low_any x.coefficient (ring.modulus - x.coefficient) t g (not_too_high (multiple x.coefficient t g) low)))
+      (append_low (x ∷ f) (multiple (ring.modulus - x.coefficient) t g) k
+      (low_any x.coefficient (ring.modulus - x.coefficient) t g (not_too_high (multiple x.coefficient t g) low)))
 
   t_low : HasLowDegrees (x ∷ f) → degree t ≤ greatest_degree
-  t_low k = omega (arith, k.0, degree_quotient x.exponents (lead g) (h.2 ∙ sym lead_long) divisible)
+  t_low k = omega (arith, k.0, degree_quotient x.exponents (leading_monomial g) (h.2 ∙ sym lead_long) divisible)
 
   -- the quotient's monomials fall
-  y_starts : (q : List Term) → IsCanonical ring q → TermsBelow ring x.exponents (lead g) q → StartsBelow ring t q
+  y_starts : (q : List Term) → IsCanonical ring q → TermsBelow ring x.exponents (leading_monomial g) q → StartsBelow ring t q
   y_starts [] c b = tt
   y_starts (z ∷ q) c b =
-      let n : List ℕ = lead g in
+      let n : List ℕ = leading_monomial g in
       let a : product z.exponents n ≡ product n z.exponents = product_comm z.exponents n in
       let e : product n t ≡ x.exponents = product_comm n t ∙ whole in
       let s = compared_shift (order_of ring) n z.exponents t (lead_long ∙ sym c.2) (lead_long ∙ sym t_long) in
@@ -179,11 +195,17 @@ module _ (ring : Ring) (G : List (List Term)) (pos : 0 < ring.modulus) (ok : Are
       let c = (alike_from_coefficients pos d.sum).under w in
       let e = mod_add ring.modulus M M _ _ refl (sym b ∙ c) in
       let z : M + total w (products quotients G ++ remainder) ≡ total w (products (added_at i y quotients) G ++ remainder) =
-      omega (arith, total_append w (products quotients G) remainder, total_append w (products (added_at i y quotients) G) remainder, total_added w i y quotients G d.places l) in
+      omega (
+        arith,
+        total_append w (products quotients G) remainder,
+        total_append w (products (added_at i y quotients) G) remainder,
+        total_added w i y quotients G d.places l,
+      ) in
       a ∙ (e ∙ ap (λ n. n % ring.modulus) z)
 
   -- the quotient at each place, with the new term
-  at_places : (P : List Term → Type 0) (quotients : List (List Term)) → length quotients ≡ length G → P (y ∷ get_or quotients i []) → (j : ℕ) → P (get_or quotients j [])
+  at_places : (P : List Term → Type 0) (quotients : List (List Term)) → length quotients ≡ length G
+      → P (y ∷ get_or quotients i []) → (j : ℕ) → P (get_or quotients j [])
       → P (get_or (added_at i y quotients) j [])
   at_places P quotients e here j there = by_place (cases_eq i j)
     where
@@ -202,18 +224,29 @@ module _ (ring : Ring) (G : List (List Term)) (pos : 0 < ring.modulus) (ok : Are
         let b = d.below m (starts_lower ring x.exponents m rest rest_starts s) in
         (below_added ring m i y quotients G d.places l (subst (λ n. compared (order_of ring) n m ≡ Less) (sym whole) s) b.0, b.1);
     canonical_remainder = d.canonical_remainder;
-    canonical_quotients = λ j k. at_places (λ q. IsCanonical ring q) quotients d.places (h.0, h.1, t_long, y_starts (get_or quotients i []) (d.canonical_quotients i l) (below_at ring x.exponents i quotients G d.places l (d.below x.exponents rest_starts).0), d.canonical_quotients i l) j (d.canonical_quotients j k);
+    canonical_quotients = λ j k.
+        at_places (λ q. IsCanonical ring q) quotients d.places (
+          h.0,
+          h.1,
+          t_long,
+          y_starts (get_or quotients i []) (d.canonical_quotients i l)
+              (below_at ring x.exponents i quotients G d.places l (d.below x.exponents rest_starts).0),
+          d.canonical_quotients i l,
+        ) j (d.canonical_quotients j k);
     low_remainder = λ k. d.low_remainder (rest_low low k);
-    low_quotients = λ k j o. at_places HasLowDegrees quotients d.places (t_low k, d.low_quotients (rest_low low k) i l) j (d.low_quotients (rest_low low k) j o);
+    low_quotients = λ k j o.
+        at_places HasLowDegrees quotients d.places (t_low k, d.low_quotients (rest_low low k) i l) j (d.low_quotients (rest_low low k) j o);
   }
 
   -- the same for the run
   taken_step : (units left : ℕ) (run : Run) (remainder : List Term) (quotients : List (List Term))
-      → charged (length g) units (cond (is_too_high (multiple x.coefficient t g)) (out_of_degree (units - length g)) (with_quotient i y run)) ≡ done remainder quotients left
+      → charged (length g) units (cond (is_too_high (multiple x.coefficient t g)) (out_of_degree (units - length g)) (with_quotient i y run))
+      ≡ done remainder quotients left
       → ((found : List (List Term)) → run ≡ done remainder found left → HasDivided ring G rest remainder found) → HasDivided ring G (x ∷ f) remainder quotients
   taken_step units left run remainder quotients e ih =
       by_cond (ltb units (length g)) _ _ (done remainder quotients left) (HasDivided ring G (x ∷ f) remainder quotients) e (λ b k. absurd (cc)) (λ b k.
-      by_cond (is_too_high (multiple x.coefficient t g)) _ _ (done remainder quotients left) (HasDivided ring G (x ∷ f) remainder quotients) k (λ low n. absurd (cc)) (λ low n.
+      by_cond (is_too_high (multiple x.coefficient t g)) _ _ (done remainder quotients left)
+      (HasDivided ring G (x ∷ f) remainder quotients) k (λ low n. absurd (cc)) (λ low n.
       let found = quotients_of i y run remainder quotients left n in
       subst (λ q. HasDivided ring G (x ∷ f) remainder q) found.2 (term_taken remainder found.0 low (ih found.0 found.1))))
 
@@ -246,7 +279,8 @@ module _ (ring : Ring) (G : List (List Term)) (pos : 0 < ring.modulus) (ok : Are
       (λ found r. run_divides n (units - 1) left f found quotients h.4 r))
 
   -- what a division run that ends with a remainder has found
-  pub divided_divides : (units left : ℕ) (f remainder : List Term) (quotients : List (List Term)) → IsCanonical ring f → divided ring G units f ≡ done remainder quotients left
+  pub divided_divides : (units left : ℕ) (f remainder : List Term) (quotients : List (List Term))
+      → IsCanonical ring f → divided ring G units f ≡ done remainder quotients left
       → HasDivided ring G f remainder quotients
   unfolding divided
   divided_divides units left f remainder quotients h e = run_divides (suc units) units left f remainder quotients h e

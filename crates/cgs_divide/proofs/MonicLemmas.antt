@@ -3,7 +3,7 @@ use Rattle.std.proofs.Common.{ℕ, ◌≡◌, ◌*◌, ◌%◌, List, ◌∷◌,
 use Rattle.std.proofs.Math.Nat.{one-mul}
 use Rattle.cgs_poly.specs.declared.ring.Ring.{Ring}
 use Rattle.cgs_poly.specs.Polynomial.{Term, total, IsRing, IsCanonical}
-use Rattle.cgs_poly.specs.Product.{lead, lead_coefficient}
+use Rattle.cgs_poly.specs.Product.{leading_monomial, leading_coefficient}
 use Rattle.cgs_field.specs.Inverse.{inverse}
 use Rattle.cgs_poly.specs.Monic.{monic_of}
 use Rattle.cgs_poly.proofs.SumLemmas.{total_scaled}
@@ -22,10 +22,10 @@ module _ (ring : Ring) (r : IsRing ring) (x : Term) (f : List Term) (h : IsCanon
   pub monic_back : (w : List ℕ → ℕ) → total w (x ∷ f) % ring.modulus ≡ (x.coefficient * total w (monic_of ring (x ∷ f))) % ring.modulus
   monic_back w = any.monic_back ring r (x ∷ f) h w
 
-  pub monic_one : lead_coefficient (monic_of ring (x ∷ f)) ≡ 1
+  pub monic_one : leading_coefficient (monic_of ring (x ∷ f)) ≡ 1
   monic_one = any.monic_leading ring r (x ∷ f) h (λ e. cc)
 
-  pub monic_lead_same : lead (monic_of ring (x ∷ f)) ≡ x.exponents
+  pub monic_lead_same : leading_monomial (monic_of ring (x ∷ f)) ≡ x.exponents
   monic_lead_same = any.monic_lead ring r (x ∷ f) h
 
   -- a monic polynomial stays as it is
@@ -33,6 +33,7 @@ module _ (ring : Ring) (r : IsRing ring) (x : Term) (f : List Term) (h : IsCanon
   monic_itself one =
       same_canonical ring (monic_of ring (x ∷ f)) (x ∷ f) monic_canonical h (record {
         under = λ w.
-            let b : (x.coefficient * total w (monic_of ring (x ∷ f))) % ring.modulus ≡ total w (monic_of ring (x ∷ f)) % ring.modulus = ap (λ n. (n * total w (monic_of ring (x ∷ f))) % ring.modulus) one ∙ ap (λ n. n % ring.modulus) (one-mul (total w (monic_of ring (x ∷ f)))) in
+            let b : (x.coefficient * total w (monic_of ring (x ∷ f))) % ring.modulus ≡ total w (monic_of ring (x ∷ f)) % ring.modulus =
+            ap (λ n. (n * total w (monic_of ring (x ∷ f))) % ring.modulus) one ∙ ap (λ n. n % ring.modulus) (one-mul (total w (monic_of ring (x ∷ f)))) in
             sym (monic_back w ∙ b);
       })

@@ -6,18 +6,18 @@ use Rattle.cgs_poly.specs.Polynomial.{Term, StartsBelow, IsCanonical}
 use Rattle.cgs_poly.specs.Product.{multiple, all_products}
 use Rattle.cgs_poly.proofs.SumLemmas.{Alike, alike_from_coefficients}
 use Rattle.cgs_algebra.specs.Combination.{Summand, summand, combined, IsCombination}
-use Rattle.cgs_algebra.specs.Groebner.{lead_at}
+use Rattle.cgs_algebra.specs.Groebner.{leading_monomial_at}
 use Rattle.cgs_algebra.specs.SPolynomial.{LeadsBelow}
 use Rattle.cgs_algebra.proofs.CombinationLemmas.{combined_append, combination_append, leads_append}
 use Rattle.cgs_divide.specs.Division.{products, TermsBelow, MultiplesBelow, HasDivided}
 
 -- q times the polynomial at a place
-abbrev pub quotient_summands : List Term → ℕ → List Summand
+abbrev quotient_summands : List Term → ℕ → List Summand
 quotient_summands [] i = []
 quotient_summands (x ∷ q) i = summand x.coefficient x.exponents i ∷ quotient_summands q i
 
 -- quotients times the polynomials from a place on
-abbrev pub summands_from : ℕ → List (List Term) → List Summand
+abbrev summands_from : ℕ → List (List Term) → List Summand
 summands_from i [] = []
 summands_from i (q ∷ quotients) = quotient_summands q i ++ summands_from (suc i) quotients
 
@@ -25,20 +25,23 @@ quotient_combined : (G : List (List Term)) (q : List Term) (i : ℕ) → combine
 quotient_combined G [] i = refl
 quotient_combined G (x ∷ q) i = ap (λ f. multiple x.coefficient x.exponents (get_or G i []) ++ f) (quotient_combined G q i)
 
-quotient_combination : (ring : Ring) (G : List (List Term)) (q : List Term) (i : ℕ) → IsCanonical ring q → i < length G → IsCombination ring G (quotient_summands q i)
+quotient_combination : (ring : Ring) (G : List (List Term)) (q : List Term) (i : ℕ)
+    → IsCanonical ring q → i < length G → IsCombination ring G (quotient_summands q i)
 quotient_combination ring G [] i h l = tt
 quotient_combination ring G (x ∷ q) i h l = (h.2, l, quotient_combination ring G q i h.4 l)
 
-quotient_below : (ring : Ring) (G : List (List Term)) (m : List ℕ) (q : List Term) (i : ℕ) → TermsBelow ring m (lead_at G i) q → LeadsBelow ring G m (quotient_summands q i)
+quotient_below : (ring : Ring) (G : List (List Term)) (m : List ℕ) (q : List Term) (i : ℕ)
+    → TermsBelow ring m (leading_monomial_at G i) q → LeadsBelow ring G m (quotient_summands q i)
 quotient_below ring G m [] i b = tt
 quotient_below ring G m (x ∷ q) i b = (b.0, quotient_below ring G m q i b.1)
 
-pub combined_from : (G : List (List Term)) (i : ℕ) (quotients : List (List Term)) → i + length quotients ≡ length G
+combined_from : (G : List (List Term)) (i : ℕ) (quotients : List (List Term)) → i + length quotients ≡ length G
     → combined G (summands_from i quotients) ≡ products quotients (drop i G)
 combined_from G i [] l = refl
 combined_from G i (q ∷ quotients) l =
     let k : i < length G = omega arith in
-    rw (drop-cons G i [] k) (combined_append G (quotient_summands q i) (summands_from (suc i) quotients) ∙ cc (quotient_combined G q i, combined_from G (suc i) quotients (omega arith)))
+    rw (drop-cons G i [] k) (combined_append G (quotient_summands q i) (summands_from (suc i) quotients)
+    ∙ cc (quotient_combined G q i, combined_from G (suc i) quotients (omega arith)))
 
 combination_from : (ring : Ring) (G : List (List Term)) (i : ℕ) (quotients : List (List Term)) → i + length quotients ≡ length G
     → ((j : ℕ) → j < length quotients → IsCanonical ring (get_or quotients j []))
@@ -53,8 +56,10 @@ below_from : (ring : Ring) (G : List (List Term)) (m : List ℕ) (i : ℕ) (quot
 below_from ring G m i [] l b = tt
 below_from ring G m i (q ∷ quotients) l b =
     let k : i < length G = omega arith in
-    let c : MultiplesBelow ring m (q ∷ quotients) (get_or G i [] ∷ drop (suc i) G) = subst (λ H. MultiplesBelow ring m (q ∷ quotients) H) (drop-cons G i [] k) b in
-    leads_append ring G m (quotient_summands q i) (summands_from (suc i) quotients) (quotient_below ring G m q i c.0) (below_from ring G m (suc i) quotients (omega arith) c.1)
+    let c : MultiplesBelow ring m (q ∷ quotients) (get_or G i [] ∷ drop (suc i) G) =
+    subst (λ H. MultiplesBelow ring m (q ∷ quotients) H) (drop-cons G i [] k) b in
+    leads_append ring G m (quotient_summands q i) (summands_from (suc i) quotients)
+    (quotient_below ring G m q i c.0) (below_from ring G m (suc i) quotients (omega arith) c.1)
 
 -- the combination that the quotients make
 abbrev pub summands_of : List (List Term) → List Summand

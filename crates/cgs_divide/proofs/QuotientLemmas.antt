@@ -6,30 +6,31 @@ use Rattle.cgs_exps.specs.Monomial.{product, degree, divides}
 use Rattle.cgs_order.specs.TermOrder.{compared}
 use Rattle.cgs_poly.specs.declared.ring.Ring.{Ring}
 use Rattle.cgs_poly.specs.Polynomial.{Term, order_of, total, HasLowDegrees, greatest_degree}
-use Rattle.cgs_poly.specs.Product.{multiple, all_products, lead}
+use Rattle.cgs_poly.specs.Product.{multiple, all_products, leading_monomial}
 use Rattle.cgs_poly.proofs.SumLemmas.{total_append}
-use Rattle.cgs_algebra.specs.Groebner.{lead_at}
+use Rattle.cgs_algebra.specs.Groebner.{leading_monomial_at}
 use Rattle.cgs_divide.specs.DivisionRun.{first_divisor, is_too_high, added_at}
 use Rattle.cgs_divide.specs.Division.{products, TermsBelow, MultiplesBelow}
 
 -- the first divisor
 
-pub divisor_divides : (G : List (List Term)) (m : List ℕ) → first_divisor G m < length G → divides (lead_at G (first_divisor G m)) m ≡ true
+pub divisor_divides : (G : List (List Term)) (m : List ℕ) → first_divisor G m < length G → divides (leading_monomial_at G (first_divisor G m)) m ≡ true
 divisor_divides [] m h = absurd (omega arith)
-divisor_divides (g ∷ G) m h = by_test (divides (lead g) m) refl h (divisor_divides G m)
+divisor_divides (g ∷ G) m h = by_test (divides (leading_monomial g) m) refl h (divisor_divides G m)
   where
-    by_test : (b : Bool) → divides (lead g) m ≡ b → cond b 0 (suc (first_divisor G m)) < suc (length G)
-        → (first_divisor G m < length G → divides (lead_at G (first_divisor G m)) m ≡ true)
-        → divides (lead_at (g ∷ G) (cond b 0 (suc (first_divisor G m)))) m ≡ true
+    by_test : (b : Bool) → divides (leading_monomial g) m ≡ b → cond b 0 (suc (first_divisor G m)) < suc (length G)
+        → (first_divisor G m < length G → divides (leading_monomial_at G (first_divisor G m)) m ≡ true)
+        → divides (leading_monomial_at (g ∷ G) (cond b 0 (suc (first_divisor G m)))) m ≡ true
     by_test true e l ih = e
     by_test false e l ih = ih (omega arith)
 
-pub none_divides : (G : List (List Term)) (m : List ℕ) → length G ≤ first_divisor G m → (i : ℕ) → i < length G → divides (lead_at G i) m ≡ true → ⊥
+pub none_divides : (G : List (List Term)) (m : List ℕ) → length G ≤ first_divisor G m → (i : ℕ) → i < length G → divides (leading_monomial_at G i) m ≡ true → ⊥
 none_divides [] m h i l d = omega arith
-none_divides (g ∷ G) m h i l d = by_test (divides (lead g) m) refl h i l d (none_divides G m)
+none_divides (g ∷ G) m h i l d = by_test (divides (leading_monomial g) m) refl h i l d (none_divides G m)
   where
-    by_test : (b : Bool) → divides (lead g) m ≡ b → suc (length G) ≤ cond b 0 (suc (first_divisor G m)) → (i : ℕ) → i < suc (length G) → divides (lead_at (g ∷ G) i) m ≡ true
-        → (length G ≤ first_divisor G m → (i : ℕ) → i < length G → divides (lead_at G i) m ≡ true → ⊥) → ⊥
+    by_test : (b : Bool) → divides (leading_monomial g) m ≡ b → suc (length G) ≤ cond b 0 (suc (first_divisor G m))
+        → (i : ℕ) → i < suc (length G) → divides (leading_monomial_at (g ∷ G) i) m ≡ true
+        → (length G ≤ first_divisor G m → (i : ℕ) → i < length G → divides (leading_monomial_at G i) m ≡ true → ⊥) → ⊥
     by_test true e h i l d ih = omega arith
     by_test false e h zero l d ih = cc
     by_test false e h (suc i) l d ih = ih (omega arith) i (omega arith) d
@@ -40,7 +41,8 @@ pub not_too_high : (f : List Term) → is_too_high f ≡ false → HasLowDegrees
 not_too_high [] e = tt
 not_too_high (x ∷ f) e = by_test (ltb greatest_degree (degree x.exponents)) refl e (not_too_high f)
   where
-    by_test : (b : Bool) → ltb greatest_degree (degree x.exponents) ≡ b → (b || is_too_high f) ≡ false → (is_too_high f ≡ false → HasLowDegrees f) → HasLowDegrees (x ∷ f)
+    by_test : (b : Bool) → ltb greatest_degree (degree x.exponents) ≡ b → (b || is_too_high f) ≡ false
+        → (is_too_high f ≡ false → HasLowDegrees f) → HasLowDegrees (x ∷ f)
     by_test true t k ih = absurd (cc)
     by_test false t k ih = (ltb-false greatest_degree (degree x.exponents) t, ih k)
 
@@ -87,15 +89,17 @@ total_added w (suc i) x (q ∷ quotients) (g ∷ G) l h =
     omega (arith, a, b, total_added w i x quotients G (omega arith) (omega arith))
 
 pub below_added : (ring : Ring) (m : List ℕ) (i : ℕ) (x : Term) (quotients G : List (List Term)) → length quotients ≡ length G → i < length G
-    → compared (order_of ring) (product x.exponents (lead_at G i)) m ≡ Less → MultiplesBelow ring m quotients G → MultiplesBelow ring m (added_at i x quotients) G
+    → compared (order_of ring) (product x.exponents (leading_monomial_at G i)) m ≡ Less
+    → MultiplesBelow ring m quotients G → MultiplesBelow ring m (added_at i x quotients) G
 below_added ring m i x [] G l h s b = absurd (omega arith)
 below_added ring m i x (q ∷ quotients) [] l h s b = absurd (omega arith)
 below_added ring m zero x (q ∷ quotients) (g ∷ G) l h s b = ((s, b.0), b.1)
 below_added ring m (suc i) x (q ∷ quotients) (g ∷ G) l h s b = (b.0, below_added ring m i x quotients G (omega arith) (omega arith) s b.1)
 
 -- the quotient at a place
-pub below_at : (ring : Ring) (m : List ℕ) (i : ℕ) (quotients G : List (List Term)) → length quotients ≡ length G → i < length G → MultiplesBelow ring m quotients G
-    → TermsBelow ring m (lead_at G i) (get_or quotients i [])
+pub below_at : (ring : Ring) (m : List ℕ) (i : ℕ) (quotients G : List (List Term))
+    → length quotients ≡ length G → i < length G → MultiplesBelow ring m quotients G
+    → TermsBelow ring m (leading_monomial_at G i) (get_or quotients i [])
 below_at ring m i [] G l h b = absurd (omega arith)
 below_at ring m i (q ∷ quotients) [] l h b = absurd (omega arith)
 below_at ring m zero (q ∷ quotients) (g ∷ G) l h b = b.0

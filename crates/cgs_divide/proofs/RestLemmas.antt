@@ -1,30 +1,27 @@
 -- What a step leaves of a polynomial in two pieces: a front, and terms of the polynomial itself that no step has reached.
-use Rattle.std.proofs.Common.{ℕ, zero, suc, ◌≡◌, ◌+◌, ◌-◌, ◌%◌, ◌<◌, ◌≤◌, Bool, true, false, cond, eqb, Some, Ok, Err, List, [], ◌∷◌, ◌++◌, length, take, drop, append_assoc, refl, sym, ap, ◌∙◌, subst, arith}
-use Rattle.std.proofs.lemmas.List.{append-nil, drop-drop, take-append-drop, drop_all}
+use Rattle.std.proofs.Common.{ℕ, zero, suc, ◌≡◌, ◌+◌, ◌-◌, ◌%◌, ◌<◌, ◌≤◌, Bool, true, false, cond, eqb, Some, Ok, Err, List, [], ◌∷◌, ◌++◌, length, take, drop}
+use Rattle.std.proofs.Common.{append_assoc, refl, sym, ap, ◌∙◌, subst, arith}
+use Rattle.std.proofs.lemmas.List.{append-nil, drop-drop, drop_all}
 use Rattle.std.specs.Prelude.{slice_get, Result, OnOk, IsErr}
 use Rattle.std.specs.Result.{is_err}
 use Rattle.std.specs.declared.cmp.Ordering.{Ordering}
 use Rattle.std.specs.declared.cmp.Ordering.TheVariants.{Less, Equal, Greater}
+use Rattle.cgs_list.proofs.ListLemmas.{drop_parts}
 use Rattle.cgs_exps.specs.Monomial.{degree, product}
 use Rattle.cgs_order.specs.TermOrder.{compared}
 use Rattle.cgs_order.proofs.OrderLemmas.{compared_trans, compared_back, compared_forth}
 use Rattle.cgs_poly.specs.declared.ring.Ring.{Ring}
-use Rattle.cgs_poly.specs.Polynomial.{Term, term, order_of, places, total, IsOfRing, StartsBelow, IsCanonical, IsPoly, HasLowDegrees, greatest_degree, kept, inserted, canonical}
+use Rattle.cgs_poly.specs.Polynomial.{Term, term, order_of, places, total, IsOfRing, StartsBelow, IsCanonical, IsPoly, HasLowDegrees, greatest_degree, kept}
+use Rattle.cgs_poly.specs.Polynomial.{inserted, canonical}
 use Rattle.cgs_poly.specs.Product.{multiple}
 use Rattle.cgs_poly.specs.Merge.{AreAbove}
 use Rattle.cgs_poly.proofs.SumLemmas.{total_append, alike_same, alike_back, alike_trans, alike_append, Alike}
-use Rattle.cgs_poly.proofs.CanonicalLemmas.{same_canonical, is_canonical, canonical_alike, canonical_of_ring, append_of_ring}
-use Rattle.cgs_poly.proofs.PlaceLemmas.{drop_get, canonical_drop}
+use Rattle.cgs_poly.proofs.CanonicalLemmas.{same_canonical, is_canonical, canonical_alike, canonical_of_ring, append_of_ring, low_front}
+use Rattle.cgs_poly.proofs.PlaceLemmas.{canonical_drop}
 use Rattle.cgs_poly.proofs.ProductOrderLemmas.{compared_shift}
+use Rattle.cgs_poly.proofs.ProductLemmas.{low_drop}
 
 -- the leading term
-
-pub lead_in_front : (front g : List Term) (at : ℕ) (x : Term) → slice_get front at ≡ Some x → slice_get (drop at front ++ g) 0 ≡ Some x
-lead_in_front front g at x e = rw (drop_get front at x e) refl
-
-pub lead_behind : (front f : List Term) (at from : ℕ) (x : Term) → length front ≤ at → slice_get f from ≡ Some x
-    → slice_get (drop at front ++ drop from f) 0 ≡ Some x
-lead_behind front f at from x l e = rw (drop_all at front l, drop_get f from x e) refl
 
 pub nothing_left : (front f : List Term) (at from : ℕ) → length front ≤ at → length f ≤ from → drop at front ++ drop from f ≡ []
 nothing_left front f at from l k = rw (drop_all at front l, drop_all from f k) refl
@@ -42,17 +39,8 @@ passed_front (x ∷ front) g (suc at) l = let s : suc at + 1 ≡ suc (at + 1) = 
 pub passed_behind : (front f : List Term) (at from : ℕ) → length front ≤ at → drop at front ++ drop (from + 1) f ≡ drop 1 (drop at front ++ drop from f)
 passed_behind front f at from l = rw (drop_all at front l) (drop_one f from)
 
-pub passed_nothing : (front f : List Term) (at from : ℕ) → length front ≤ at → length f ≤ from
-    → drop at front ++ drop from f ≡ drop 1 (drop at front ++ drop from f)
-passed_nothing front f at from l k = rw (nothing_left front f at from l k) refl
-
 pub poly_drop : (ring : Ring) (i : ℕ) (f : List Term) → IsPoly ring f → IsPoly ring (drop i f)
 poly_drop ring i f h = record { canonical = canonical_drop ring i f h.canonical; low = low_drop i f h.low }
-  where
-    low_drop : (i : ℕ) (f : List Term) → HasLowDegrees f → HasLowDegrees (drop i f)
-    low_drop zero f h = h
-    low_drop (suc i) [] h = tt
-    low_drop (suc i) (x ∷ f) h = low_drop i f h.1
 
 pub low_at : (f : List Term) (i : ℕ) (x : Term) → HasLowDegrees f → slice_get f i ≡ Some x → degree x.exponents ≤ greatest_degree
 low_at [] i x h e = absurd (cc)
@@ -71,7 +59,7 @@ ok_known (Err y) e h = absurd (cc)
 
 -- monomials above m
 
-pub append_above : (ring : Ring) (m : List ℕ) (f g : List Term) → AreAbove (order_of ring) m f → AreAbove (order_of ring) m g
+append_above : (ring : Ring) (m : List ℕ) (f g : List Term) → AreAbove (order_of ring) m f → AreAbove (order_of ring) m g
     → AreAbove (order_of ring) m (f ++ g)
 append_above ring m [] g h k = k
 append_above ring m (x ∷ f) g h k = (h.0, append_above ring m f g h.1 k)
@@ -95,7 +83,7 @@ inserted_above ring n c m (y ∷ f) s h = step (compared (order_of ring) m y.exp
     step Equal ih = kept_above ring n (c + y.coefficient) m f s h.1
     step Greater ih = kept_above ring n c m (y ∷ f) s h
 
-pub canonical_above : (ring : Ring) (n : List ℕ) (f : List Term) → AreAbove (order_of ring) n f → AreAbove (order_of ring) n (canonical ring f)
+canonical_above : (ring : Ring) (n : List ℕ) (f : List Term) → AreAbove (order_of ring) n f → AreAbove (order_of ring) n (canonical ring f)
 canonical_above ring n [] h = tt
 canonical_above ring n (x ∷ f) h = inserted_above ring n x.coefficient x.exponents (canonical ring f) h.0 (canonical_above ring n f h.1)
 
@@ -131,7 +119,7 @@ joined_canonical ring [] y b h r k = k
 joined_canonical ring (x ∷ []) y b h r k = (h.0, h.1, h.2, compared_back (order_of ring) x.exponents y.exponents r.0, k)
 joined_canonical ring (x ∷ z ∷ a) y b h r k = (h.0, h.1, h.2, h.3, joined_canonical ring (z ∷ a) y b h.4 r.1 k)
 
-pub canonical_front : (ring : Ring) (a b : List Term) → IsCanonical ring (a ++ b) → IsCanonical ring a
+canonical_front : (ring : Ring) (a b : List Term) → IsCanonical ring (a ++ b) → IsCanonical ring a
 canonical_front ring [] b h = tt
 canonical_front ring (x ∷ []) b h = (h.0, h.1, h.2, tt, tt)
 canonical_front ring (x ∷ y ∷ a) b h = (h.0, h.1, h.2, h.3, canonical_front ring (y ∷ a) b h.4)
@@ -140,12 +128,8 @@ canonical_back : (ring : Ring) (a b : List Term) → IsCanonical ring (a ++ b) �
 canonical_back ring [] b h = h
 canonical_back ring (x ∷ a) b h = canonical_back ring a b h.4
 
-pub low_front : (a b : List Term) → HasLowDegrees (a ++ b) → HasLowDegrees a
-low_front [] b h = tt
-low_front (x ∷ a) b h = (h.0, low_front a b h.1)
-
 -- terms below all of m stay as they are, where m is added to a canonical list
-pub added_in_front : (ring : Ring) (a b m : List Term) (n : List ℕ) → 0 < ring.modulus → IsCanonical ring (a ++ b) → IsOfRing ring m → StartsBelow ring n b
+added_in_front : (ring : Ring) (a b m : List Term) (n : List ℕ) → 0 < ring.modulus → IsCanonical ring (a ++ b) → IsOfRing ring m → StartsBelow ring n b
     → ((k : List ℕ) → compared (order_of ring) k n ≡ Less → AreAbove (order_of ring) k m) → canonical ring ((a ++ b) ++ m) ≡ canonical ring (a ++ m) ++ b
 added_in_front ring a [] m n pos h o s above = ap (λ k. canonical ring (k ++ m)) (append-nil a) ∙ sym (append-nil (canonical ring (a ++ m)))
 added_in_front ring a (y ∷ b) m n pos h o s above =
@@ -165,14 +149,11 @@ added_in_front ring a (y ∷ b) m n pos h o s above =
     (alike_trans moved (alike_append (alike_back (canonical_alike ring (a ++ m) pos of_a)) (alike_same ring.modulus (y ∷ b)))))
 
 -- the terms from a place on, in two parts
-pub in_parts : (front f : List Term) (at from end : ℕ) → from ≤ end
+in_parts : (front f : List Term) (at from end : ℕ) → from ≤ end
     → drop at front ++ drop from f ≡ (drop at front ++ take (end - from) (drop from f)) ++ drop end f
 in_parts front f at from end le =
-    let s : from + (end - from) ≡ end = omega arith in
-    let d : drop (end - from) (drop from f) ≡ drop end f = drop-drop (end - from) from f ∙ ap (λ n. drop n f) s in
-    let w : take (end - from) (drop from f) ++ drop end f ≡ drop from f =
-    ap (λ k. take (end - from) (drop from f) ++ k) (sym d) ∙ take-append-drop (end - from) (drop from f) in
-    ap (λ k. drop at front ++ k) (sym w) ∙ sym (append_assoc (drop at front) (take (end - from) (drop from f)) (drop end f))
+    ap (λ k. drop at front ++ k) (sym (drop_parts from end f le))
+    ∙ sym (append_assoc (drop at front) (take (end - from) (drop from f)) (drop end f))
 
 -- what is left is a front that is reached and terms that are not: the front alone is changed
 module _ (ring : Ring) (front f : List Term) (at from end : ℕ) (le : from ≤ end) (h : IsPoly ring (drop at front ++ drop from f)) where

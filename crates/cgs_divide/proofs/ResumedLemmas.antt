@@ -1,15 +1,17 @@
 -- A division run after terms that were found before it: what a loop has done so far, and the run that is left to it.
-use Rattle.std.proofs.Common.{ℕ, zero, suc, ◌≡◌, ◌-◌, Bool, true, false, cond, ltb, List, [], ◌∷◌, ◌++◌, length, get_or, set, append_assoc, refl, sym, ap, ◌∙◌, arith}
+use Rattle.std.proofs.Common.{ℕ, zero, suc, ◌≡◌, ◌-◌, Bool, true, false, cond, ltb, List, [], ◌∷◌, ◌++◌, length, get_or, set, append_assoc, refl, sym, ap, ◌∙◌}
+use Rattle.std.proofs.Common.{arith}
 use Rattle.std.proofs.lemmas.List.{append-nil}
 use Rattle.cgs_exps.specs.Monomial.{quotient}
 use Rattle.cgs_poly.specs.declared.ring.Ring.{Ring}
 use Rattle.cgs_poly.specs.Polynomial.{Term, term}
-use Rattle.cgs_poly.specs.Product.{multiple, lead}
-use Rattle.cgs_divide.specs.DivisionRun.{Run, done, out_of_budget, out_of_degree, first_divisor, is_too_high, less_multiple, charged, with_remainder, with_quotient, added_at, divided_in, divided}
+use Rattle.cgs_poly.specs.Product.{multiple, leading_monomial}
+use Rattle.cgs_divide.specs.DivisionRun.{Run, done, out_of_budget, out_of_degree, first_divisor, is_too_high, less_multiple, charged, with_remainder}
+use Rattle.cgs_divide.specs.DivisionRun.{with_quotient, added_at, divided_in, divided}
 use Rattle.cgs_divide.proofs.QuotientLemmas.{added_length, zeros, zeros_length}
 
 -- the terms of each quotient after those of the same place
-abbrev pub joined : List (List Term) → List (List Term) → List (List Term)
+abbrev joined : List (List Term) → List (List Term) → List (List Term)
 joined [] more = []
 joined (q ∷ quotients) [] = []
 joined (q ∷ quotients) (m ∷ more) = (q ++ m) ∷ joined quotients more
@@ -31,11 +33,13 @@ resumed_charged before quotients cost units run = by_test (ltb units cost)
 -- a term of the remainder
 pub resumed_remainder : (before : List Term) (quotients : List (List Term)) (x : Term) (run : Run)
     → resumed before quotients (with_remainder x run) ≡ resumed (before ++ x ∷ []) quotients run
-resumed_remainder before quotients x (done remainder more units) = let e : before ++ x ∷ remainder ≡ (before ++ x ∷ []) ++ remainder = sym (append_assoc before (x ∷ []) remainder) in cc
+resumed_remainder before quotients x (done remainder more units) = let e : before ++ x ∷ remainder ≡ (before ++ x ∷ []) ++ remainder =
+    sym (append_assoc before (x ∷ []) remainder) in cc
 resumed_remainder before quotients x (out_of_budget units) = refl
 resumed_remainder before quotients x (out_of_degree units) = refl
 
-joined_added : (i : ℕ) (x : Term) (quotients more : List (List Term)) → joined quotients (added_at i x more) ≡ joined (set quotients i (get_or quotients i [] ++ x ∷ [])) more
+joined_added : (i : ℕ) (x : Term) (quotients more : List (List Term))
+    → joined quotients (added_at i x more) ≡ joined (set quotients i (get_or quotients i [] ++ x ∷ [])) more
 joined_added i x [] more = refl
 joined_added zero x (q ∷ quotients) [] = refl
 joined_added (suc i) x (q ∷ quotients) [] = refl
@@ -87,12 +91,13 @@ run_places (suc n) ring G units [] = zeros_length G
 run_places (suc n) ring G units (x ∷ f) =
     let i : ℕ = first_divisor G x.exponents in
     let g : List Term = get_or G i [] in
-    let t : List ℕ = quotient x.exponents (lead g) in
+    let t : List ℕ = quotient x.exponents (leading_monomial g) in
     let rest : Run = divided_in n ring G (units - length g) (less_multiple ring (x ∷ f) x.coefficient t g) in
     let next : Run = with_quotient i (term x.coefficient t) rest in
     let checked : Run = cond (is_too_high (multiple x.coefficient t g)) (out_of_degree (units - length g)) next in
     let kept : Run = with_remainder x (divided_in n ring G (units - 1) f) in
-    let a : HasPlaces (length G) next = quotient_places (length G) i (term x.coefficient t) rest (run_places n ring G (units - length g) (less_multiple ring (x ∷ f) x.coefficient t g)) in
+    let a : HasPlaces (length G) next =
+    quotient_places (length G) i (term x.coefficient t) rest (run_places n ring G (units - length g) (less_multiple ring (x ∷ f) x.coefficient t g)) in
     let b : HasPlaces (length G) checked = cond_places (length G) (is_too_high (multiple x.coefficient t g)) (out_of_degree (units - length g)) next tt a in
     let c : HasPlaces (length G) kept = remainder_places (length G) x (divided_in n ring G (units - 1) f) (run_places n ring G (units - 1) f) in
     cond_places (length G) (ltb i (length G)) (charged (length g) units checked) (charged 1 units kept)

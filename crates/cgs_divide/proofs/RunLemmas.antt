@@ -4,9 +4,10 @@ use Rattle.std.proofs.lemmas.Bool.{ltb-true, ltb-false, lt-ltb, le-ltb}
 use Rattle.cgs_exps.specs.Monomial.{quotient}
 use Rattle.cgs_poly.specs.declared.ring.Ring.{Ring}
 use Rattle.cgs_poly.specs.Polynomial.{Term, term}
-use Rattle.cgs_poly.specs.Product.{multiple, lead, lead_coefficient}
+use Rattle.cgs_poly.specs.Product.{multiple, leading_monomial, leading_coefficient}
 use Rattle.cgs_algebra.specs.Groebner.{AreMonic}
-use Rattle.cgs_divide.specs.DivisionRun.{Run, done, out_of_budget, out_of_degree, first_divisor, is_too_high, less_multiple, charged, with_remainder, with_quotient, divided_in, divided}
+use Rattle.cgs_divide.specs.DivisionRun.{Run, done, out_of_budget, out_of_degree, first_divisor, is_too_high, less_multiple, charged, with_remainder}
+use Rattle.cgs_divide.specs.DivisionRun.{with_quotient, divided_in, divided}
 use Rattle.cgs_divide.proofs.QuotientLemmas.{zeros}
 
 charged_same : (cost units : ℕ) (a b : Run) → (cost ≤ units → a ≡ b) → charged cost units a ≡ charged cost units b
@@ -16,22 +17,22 @@ charged_same cost units a b h = by_test (ltb units cost) refl
     by_test true e = refl
     by_test false e = h (ltb-false units cost e)
 
-pub monic_some : (f : List Term) → lead_coefficient f ≡ 1 → 0 < length f
+pub monic_some : (f : List Term) → leading_coefficient f ≡ 1 → 0 < length f
 monic_some [] e = absurd (omega arith)
 monic_some (x ∷ f) e = omega arith
 
 module _ (ring : Ring) (G : List (List Term)) (ok : AreMonic ring G) where
   -- the step by the divisor at a place, and the run after it
-  abbrev pub taken_at : ℕ → ℕ → Term → (ℕ → Run) → Run
+  abbrev taken_at : ℕ → ℕ → Term → (ℕ → Run) → Run
   taken_at i units x after =
       let g = get_or G i [] in
       charged (length g) units
-      (cond (is_too_high (multiple x.coefficient (quotient x.exponents (lead g)) g)) (out_of_degree (units - length g))
-      (with_quotient i (term x.coefficient (quotient x.exponents (lead g))) (after (units - length g))))
+      (cond (is_too_high (multiple x.coefficient (quotient x.exponents (leading_monomial g)) g)) (out_of_degree (units - length g))
+      (with_quotient i (term x.coefficient (quotient x.exponents (leading_monomial g))) (after (units - length g))))
 
   -- what a step by the divisor at a place leaves
-  abbrev pub left_by : ℕ → Term → List Term → List Term
-  left_by i x f = less_multiple ring (x ∷ f) x.coefficient (quotient x.exponents (lead (get_or G i []))) (get_or G i [])
+  abbrev left_by : ℕ → Term → List Term → List Term
+  left_by i x f = less_multiple ring (x ∷ f) x.coefficient (quotient x.exponents (leading_monomial (get_or G i []))) (get_or G i [])
 
   enough_steps : (n m units : ℕ) (f : List Term) → units < n → units < m → divided_in n ring G units f ≡ divided_in m ring G units f
   enough_steps zero m units f h k = absurd (omega arith)
@@ -40,9 +41,12 @@ module _ (ring : Ring) (G : List (List Term)) (ok : AreMonic ring G) where
   enough_steps (suc n) (suc m) units (x ∷ f) h k =
       by_test (ltb (first_divisor G x.exponents) (length G)) refl (λ u q l j. enough_steps n m u q l j)
     where
-      by_test : (b : Bool) → ltb (first_divisor G x.exponents) (length G) ≡ b → ((u : ℕ) (q : List Term) → u < n → u < m → divided_in n ring G u q ≡ divided_in m ring G u q)
-          → cond b (taken_at (first_divisor G x.exponents) units x (λ u. divided_in n ring G u (left_by (first_divisor G x.exponents) x f))) (charged 1 units (with_remainder x (divided_in n ring G (units - 1) f)))
-          ≡ cond b (taken_at (first_divisor G x.exponents) units x (λ u. divided_in m ring G u (left_by (first_divisor G x.exponents) x f))) (charged 1 units (with_remainder x (divided_in m ring G (units - 1) f)))
+      by_test : (b : Bool) → ltb (first_divisor G x.exponents) (length G) ≡ b
+          → ((u : ℕ) (q : List Term) → u < n → u < m → divided_in n ring G u q ≡ divided_in m ring G u q)
+          → cond b (taken_at (first_divisor G x.exponents) units x (λ u. divided_in n ring G u (left_by (first_divisor G x.exponents) x f)))
+          (charged 1 units (with_remainder x (divided_in n ring G (units - 1) f)))
+          ≡ cond b (taken_at (first_divisor G x.exponents) units x (λ u. divided_in m ring G u (left_by (first_divisor G x.exponents) x f)))
+          (charged 1 units (with_remainder x (divided_in m ring G (units - 1) f)))
       by_test true e ih =
           let i : ℕ = first_divisor G x.exponents in
           let s : 0 < length (get_or G i []) = monic_some (get_or G i []) (ok.monic i (ltb-true i (length G) e)) in
@@ -69,7 +73,8 @@ module _ (ring : Ring) (G : List (List Term)) (ok : AreMonic ring G) where
       let e : ltb i (length G) ≡ true = lt-ltb i (length G) l in
       let g : List Term = get_or G i [] in
       let s : 0 < length g = monic_some g (ok.monic i l) in
-      rw (at, e) (charged_same (length g) units _ _ (λ c. rw (enough_steps units (suc (units - length g)) (units - length g) (left_by i x f) (omega arith) (omega arith)) refl))
+      rw (at, e) (charged_same (length g) units _ _ (λ c.
+      rw (enough_steps units (suc (units - length g)) (units - length g) (left_by i x f) (omega arith) (omega arith)) refl))
 
 -- the units that are left
 
@@ -98,16 +103,19 @@ left_in (suc n) ring G units [] = omega arith
 left_in (suc n) ring G units (x ∷ f) =
     let i : ℕ = first_divisor G x.exponents in
     let g : List Term = get_or G i [] in
-    let t : List ℕ = quotient x.exponents (lead g) in
+    let t : List ℕ = quotient x.exponents (leading_monomial g) in
     let rest : Run = divided_in n ring G (units - length g) (less_multiple ring (x ∷ f) x.coefficient t g) in
     let next : Run = with_quotient i (term x.coefficient t) rest in
     let checked : Run = cond (is_too_high (multiple x.coefficient t g)) (out_of_degree (units - length g)) next in
     let kept : Run = with_remainder x (divided_in n ring G (units - 1) f) in
-    let a : units_left next ≤ units = omega (arith, left_with_quotient i (term x.coefficient t) rest, left_in n ring G (units - length g) (less_multiple ring (x ∷ f) x.coefficient t g)) in
-    let b : units_left checked ≤ units = left_of_cond units (is_too_high (multiple x.coefficient t g)) (out_of_degree (units - length g)) next (omega arith) a in
+    let a : units_left next ≤ units =
+    omega (arith, left_with_quotient i (term x.coefficient t) rest, left_in n ring G (units - length g) (less_multiple ring (x ∷ f) x.coefficient t g)) in
+    let b : units_left checked ≤ units =
+    left_of_cond units (is_too_high (multiple x.coefficient t g)) (out_of_degree (units - length g)) next (omega arith) a in
     let c : units_left kept ≤ units = omega (arith, left_with_remainder x (divided_in n ring G (units - 1) f), left_in n ring G (units - 1) f) in
     left_of_cond units (ltb i (length G)) (charged (length g) units checked) (charged 1 units kept)
-    (left_of_cond units (ltb units (length g)) (out_of_budget units) checked (omega arith) b) (left_of_cond units (ltb units 1) (out_of_budget units) kept (omega arith) c)
+    (left_of_cond units (ltb units (length g)) (out_of_budget units) checked (omega arith) b)
+    (left_of_cond units (ltb units 1) (out_of_budget units) kept (omega arith) c)
 
 pub left_at_most : (ring : Ring) (G : List (List Term)) (units : ℕ) (f : List Term) → units_left (divided ring G units f) ≤ units
 unfolding divided

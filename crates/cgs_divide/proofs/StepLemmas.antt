@@ -1,42 +1,49 @@
 -- One step of a run that a loop makes, with the remainder so far and the terms that are left.
-use Rattle.std.proofs.Common.{ℕ, zero, suc, ◌≡◌, ◌+◌, ◌-◌, ◌<◌, ◌≤◌, Bool, true, false, cond, List, [], ◌∷◌, ◌++◌, length, get_or, set, replicate, drop, Some, Ok, Err, refl, sym, ap, ◌∙◌, arith}
+use Rattle.std.proofs.Common.{ℕ, zero, suc, ◌≡◌, ◌+◌, ◌-◌, ◌<◌, ◌≤◌, Bool, true, false, cond, List, [], ◌∷◌, ◌++◌, length, get_or, set, replicate, drop, Some}
+use Rattle.std.proofs.Common.{Ok, Err, refl, sym, ap, ◌∙◌, arith}
 use Rattle.std.proofs.lemmas.Bool.{lt-ltb, le-ltb}
 use Rattle.std.proofs.lemmas.Option.{unwrap_or-slice_get}
 use Rattle.std.specs.Prelude.{slice_get, unwrap_or, Result, IsErrAnd, IsErrOf}
+use Rattle.cgs_list.proofs.ListLemmas.{drop_at}
 use Rattle.cgs_exps.specs.Monomial.{divides, quotient}
 use Rattle.cgs_poly.specs.declared.ring.Ring.{Ring}
 use Rattle.cgs_poly.specs.Polynomial.{Term, term, HasLowDegrees}
 use Rattle.cgs_poly.specs.Draft.{HaveLength}
 use Rattle.cgs_poly.specs.declared.fault.PolyFault.{PolyFault}
 use Rattle.cgs_poly.specs.declared.fault.PolyFault.TheVariants as fault
-use Rattle.cgs_poly.specs.Product.{multiple, lead}
-use Rattle.cgs_poly.proofs.PlaceLemmas.{drop_get}
-use Rattle.cgs_algebra.specs.Groebner.{AreMonic, lead_at}
+use Rattle.cgs_poly.specs.Product.{multiple, leading_monomial}
+use Rattle.cgs_poly.proofs.ParameterLemmas.{lead_first}
+use Rattle.cgs_algebra.specs.Groebner.{AreMonic, leading_monomial_at}
 use Rattle.cgs_divide.specs.declared.stop.Stop.{Stop}
 use Rattle.cgs_divide.specs.declared.stop.Stop.TheVariants as stop
 use Rattle.cgs_divide.specs.Stop.{stop_of}
-use Rattle.cgs_divide.specs.DivisionRun.{Run, out_of_budget, out_of_degree, first_divisor, is_too_high, less_multiple, charged, with_remainder, with_quotient, divided}
+use Rattle.cgs_divide.specs.DivisionRun.{Run, out_of_budget, out_of_degree, first_divisor, is_too_high, less_multiple, charged, with_remainder, with_quotient}
+use Rattle.cgs_divide.specs.DivisionRun.{divided}
 use Rattle.cgs_divide.proofs.QuotientLemmas.{zeros, not_too_high, too_high}
 use Rattle.cgs_divide.proofs.RunLemmas.{divided_kept, divided_taken}
 use Rattle.cgs_divide.proofs.ResumedLemmas.{resumed, resumed_charged, resumed_remainder, resumed_quotient}
 
 -- the first divisor
 
-pub first_at : (G : List (List Term)) (m : List ℕ) (i : ℕ) → i < length G → i ≤ first_divisor G m → divides (lead_at G i) m ≡ true → first_divisor G m ≡ i
+pub first_at : (G : List (List Term)) (m : List ℕ) (i : ℕ) → i < length G → i ≤ first_divisor G m → divides (leading_monomial_at G i) m ≡ true
+    → first_divisor G m ≡ i
 first_at [] m i l h d = absurd (omega arith)
 first_at (g ∷ G) m zero l h d = rw d refl
-first_at (g ∷ G) m (suc i) l h d = by_test (divides (lead g) m) h (λ k. first_at G m i (omega arith) k d)
+first_at (g ∷ G) m (suc i) l h d = by_test (divides (leading_monomial g) m) h (λ k. first_at G m i (omega arith) k d)
   where
-    by_test : (b : Bool) → suc i ≤ cond b 0 (suc (first_divisor G m)) → (i ≤ first_divisor G m → first_divisor G m ≡ i) → cond b 0 (suc (first_divisor G m)) ≡ suc i
+    by_test : (b : Bool) → suc i ≤ cond b 0 (suc (first_divisor G m))
+        → (i ≤ first_divisor G m → first_divisor G m ≡ i) → cond b 0 (suc (first_divisor G m)) ≡ suc i
     by_test true k ih = absurd (omega arith)
     by_test false k ih = ap suc (ih (omega arith))
 
-pub not_first : (G : List (List Term)) (m : List ℕ) (i : ℕ) → i < length G → i ≤ first_divisor G m → divides (lead_at G i) m ≡ false → i + 1 ≤ first_divisor G m
+pub not_first : (G : List (List Term)) (m : List ℕ) (i : ℕ) → i < length G → i ≤ first_divisor G m → divides (leading_monomial_at G i) m ≡ false
+    → i + 1 ≤ first_divisor G m
 not_first [] m i l h d = absurd (omega arith)
 not_first (g ∷ G) m zero l h d = rw d (omega arith)
-not_first (g ∷ G) m (suc i) l h d = by_test (divides (lead g) m) h (λ k. not_first G m i (omega arith) k d)
+not_first (g ∷ G) m (suc i) l h d = by_test (divides (leading_monomial g) m) h (λ k. not_first G m i (omega arith) k d)
   where
-    by_test : (b : Bool) → suc i ≤ cond b 0 (suc (first_divisor G m)) → (i ≤ first_divisor G m → i + 1 ≤ first_divisor G m) → suc i + 1 ≤ cond b 0 (suc (first_divisor G m))
+    by_test : (b : Bool) → suc i ≤ cond b 0 (suc (first_divisor G m))
+        → (i ≤ first_divisor G m → i + 1 ≤ first_divisor G m) → suc i + 1 ≤ cond b 0 (suc (first_divisor G m))
     by_test true k ih = absurd (omega arith)
     by_test false k ih = let a = ih (omega arith) in omega arith
 
@@ -45,12 +52,9 @@ not_first (g ∷ G) m (suc i) l h d = by_test (divides (lead g) m) h (λ k. not_
 pub get_read : {X : Type 0} (xs : List X) (i : ℕ) (x d : X) → slice_get xs i ≡ Some x → get_or xs i d ≡ x
 get_read xs i x d e = sym (unwrap_or-slice_get xs i d) ∙ ap (λ o. unwrap_or o d) e
 
-pub lead_first : (g : List Term) (x : Term) → slice_get g 0 ≡ Some x → lead g ≡ x.exponents
-lead_first [] x e = absurd (cc)
-lead_first (y ∷ g) x e = let s : y ≡ x = cc in ap (λ (z : Term). z.exponents) s
-
-pub lead_read : (G : List (List Term)) (i : ℕ) (g : List Term) (x : Term) → slice_get G i ≡ Some g → slice_get g 0 ≡ Some x → lead_at G i ≡ x.exponents
-lead_read G i g x e k = ap (λ h. lead h) (get_read G i g [] e) ∙ lead_first g x k
+pub lead_read : (G : List (List Term)) (i : ℕ) (g : List Term) (x : Term) → slice_get G i ≡ Some g → slice_get g 0 ≡ Some x
+    → leading_monomial_at G i ≡ x.exponents
+lead_read G i g x e k = ap (λ h. leading_monomial h) (get_read G i g [] e) ∙ lead_first g x k
 
 -- what a loop begins with
 pub replicate_zeros : (G : List (List Term)) → replicate (length G) [] ≡ zeros G
@@ -59,19 +63,20 @@ replicate_zeros (g ∷ G) = ap (λ n. [] ∷ n) (replicate_zeros G)
 
 -- steps that end the run, and steps that are paid
 
-pub charged_little : (cost units : ℕ) (run : Run) → units < cost → charged cost units run ≡ out_of_budget units
+charged_little : (cost units : ℕ) (run : Run) → units < cost → charged cost units run ≡ out_of_budget units
 charged_little cost units run h = rw (lt-ltb units cost h) refl
 
-pub charged_enough : (cost units : ℕ) (run : Run) → cost ≤ units → charged cost units run ≡ run
+charged_enough : (cost units : ℕ) (run : Run) → cost ≤ units → charged cost units run ≡ run
 charged_enough cost units run h = rw (le-ltb units cost h) refl
 
-module _ (ring : Ring) (G : List (List Term)) (ok : AreMonic ring G) (Q : List (List Term)) (units : ℕ) (before rest : List Term) (x : Term) (here : slice_get rest 0 ≡ Some x) where
+module _ (ring : Ring) (G : List (List Term)) (ok : AreMonic ring G) (Q : List (List Term)) (units : ℕ)
+    (before rest : List Term) (x : Term) (here : slice_get rest 0 ≡ Some x) where
   -- the run that is left behind the remainder so far
-  abbrev pub left_run : Run
+  abbrev left_run : Run
   left_run = resumed before Q (divided ring G units rest)
 
   first_is : rest ≡ x ∷ drop 1 rest
-  first_is = drop_get rest 0 x here
+  first_is = drop_at rest 0 x here
 
   -- no lead divides the term
   left_kept : length G ≤ first_divisor G x.exponents → left_run ≡ charged 1 units (resumed (before ++ x ∷ []) Q (divided ring G (units - 1) (drop 1 rest)))
@@ -90,12 +95,12 @@ module _ (ring : Ring) (G : List (List Term)) (ok : AreMonic ring G) (Q : List (
 
   module _ (i : ℕ) (g : List Term) (first : first_divisor G x.exponents ≡ i) (l : i < length G) (place : get_or G i [] ≡ g) where
     abbrev t : List ℕ
-    t = quotient x.exponents (lead g)
+    t = quotient x.exponents (leading_monomial g)
 
     -- the step by a divisor on terms that are left, and the run after it
     abbrev taken : List Term → List Term → Run
     taken f d =
-        let m = quotient x.exponents (lead d) in
+        let m = quotient x.exponents (leading_monomial d) in
         charged (length d) units
         (resumed before Q (cond (is_too_high (multiple x.coefficient m d)) (out_of_degree (units - length d))
         (with_quotient i (term x.coefficient m) (divided ring G (units - length d) (less_multiple ring f x.coefficient m d)))))

@@ -5,8 +5,8 @@ use Rattle.cgs_exps.specs.Monomial.{product}
 use Rattle.cgs_order.specs.TermOrder.{compared}
 use Rattle.cgs_poly.specs.declared.ring.Ring.{Ring}
 use Rattle.cgs_poly.specs.Polynomial.{Term, order_of, IsCanonical, StartsBelow, SameCoefficients, HasLowDegrees}
-use Rattle.cgs_poly.specs.Product.{all_products, lead}
-use Rattle.cgs_algebra.specs.Groebner.{lead_at, DividesNone}
+use Rattle.cgs_poly.specs.Product.{all_products, leading_monomial}
+use Rattle.cgs_algebra.specs.Groebner.{leading_monomial_at, DividesNone}
 
 -- the terms of the sum of quotients times divisors
 abbrev pub products : List (List Term) → List (List Term) → List Term
@@ -23,14 +23,14 @@ TermsBelow ring m l (x ∷ q) = (compared (order_of ring) (product x.exponents l
 abbrev pub MultiplesBelow : Ring → List ℕ → List (List Term) → List (List Term) → Type 0
 MultiplesBelow ring m [] G = Unit {0}
 MultiplesBelow ring m (q ∷ quotients) [] = Unit {0}
-MultiplesBelow ring m (q ∷ quotients) (g ∷ G) = TermsBelow ring m (lead g) q × MultiplesBelow ring m quotients G
+MultiplesBelow ring m (q ∷ quotients) (g ∷ G) = TermsBelow ring m (leading_monomial g) q × MultiplesBelow ring m quotients G
 
 -- f is the sum of quotients times divisors plus the remainder, no monomial of the remainder is divisible by a lead,
 -- and whatever f is below, the remainder and the leads of all multiples are below too
 pub record HasDivided (ring : Ring) (G : List (List Term)) (f remainder : List Term) (quotients : List (List Term)) : Type 0 where
   pub places : length quotients ≡ length G
   pub sum : SameCoefficients ring.modulus f (products quotients G ++ remainder)
-  pub undivided : (i : ℕ) → i < length G → DividesNone (lead_at G i) remainder
+  pub undivided : (i : ℕ) → i < length G → DividesNone (leading_monomial_at G i) remainder
   pub below : (m : List ℕ) → StartsBelow ring m f → MultiplesBelow ring m quotients G × StartsBelow ring m remainder
   pub canonical_remainder : IsCanonical ring remainder
   pub canonical_quotients : (i : ℕ) → i < length G → IsCanonical ring (slice_index_or quotients i [])

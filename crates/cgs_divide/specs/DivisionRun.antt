@@ -3,7 +3,7 @@ use Rattle.std.specs.Prelude.{ℕ, zero, suc, ◌-◌, Bool, false, cond, ◌||�
 use Rattle.cgs_exps.specs.Monomial.{degree, divides, quotient}
 use Rattle.cgs_poly.specs.declared.ring.Ring.{Ring}
 use Rattle.cgs_poly.specs.Polynomial.{Term, term, canonical, greatest_degree}
-use Rattle.cgs_poly.specs.Product.{multiple, lead}
+use Rattle.cgs_poly.specs.Product.{multiple, leading_monomial}
 
 -- how a run ends: with a remainder, a quotient for each divisor and the units left, or without them and with the units left
 pub data Run : Type 0 where
@@ -14,7 +14,7 @@ pub data Run : Type 0 where
 -- the place of the first polynomial whose lead divides m, or the number of polynomials
 abbrev pub first_divisor : List (List Term) → List ℕ → ℕ
 first_divisor [] m = 0
-first_divisor (g ∷ G) m = cond (divides (lead g) m) 0 (suc (first_divisor G m))
+first_divisor (g ∷ G) m = cond (divides (leading_monomial g) m) 0 (suc (first_divisor G m))
 
 -- some monomial has a degree above the limit
 abbrev pub is_too_high : List Term → Bool
@@ -55,7 +55,7 @@ divided_in (suc steps) ring G units [] = done [] (map (λ g. []) G) units
 divided_in (suc steps) ring G units (x ∷ f) =
     let i = first_divisor G x.exponents in
     let g = slice_index_or G i [] in
-    let t = quotient x.exponents (lead g) in
+    let t = quotient x.exponents (leading_monomial g) in
     cond (nat_lt i (length G))
     (charged (length g) units
     (cond (is_too_high (multiple x.coefficient t g)) (out_of_degree (units - length g))

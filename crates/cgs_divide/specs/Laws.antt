@@ -3,8 +3,8 @@ use Rattle.std.specs.Prelude.{ℕ, ◌≡◌, ◌<◌, List, length, IsTrue}
 use Rattle.cgs_exps.specs.Monomial.{divides}
 use Rattle.cgs_poly.specs.declared.ring.Ring.{Ring}
 use Rattle.cgs_poly.specs.Polynomial.{Term, IsRing, IsCanonical}
-use Rattle.cgs_poly.specs.Product.{lead, lead_coefficient}
-use Rattle.cgs_algebra.specs.Groebner.{AreMonic, IsGroebnerBasis, IsMinimal, IsReduced, IsAscending, lead_at}
+use Rattle.cgs_poly.specs.Product.{leading_monomial, leading_coefficient}
+use Rattle.cgs_algebra.specs.Groebner.{AreMonic, IsGroebnerBasis, IsMinimal, IsReduced, IsAscending, leading_monomial_at}
 use Rattle.cgs_divide.specs.DivisionRun.{divided, done}
 use Rattle.cgs_divide.specs.Division.{HasDivided}
 use Rattle.cgs_divide.specs.AutoreductionRun.{autoreduction}
@@ -14,15 +14,17 @@ use Rattle.cgs_divide.specs.Autoreduction.{IsDividedAt}
 -- what a run by monic polynomials that ends with a remainder has found
 abbrev pub DivisionDivides : Type 0
 DivisionDivides =
-    (ring : Ring) (G : List (List Term)) (units left : ℕ) (f remainder : List Term) (quotients : List (List Term)) → 0 < ring.modulus → AreMonic ring G → IsCanonical ring f
+    (ring : Ring) (G : List (List Term)) (units left : ℕ) (f remainder : List Term) (quotients : List (List Term))
+    → 0 < ring.modulus → AreMonic ring G → IsCanonical ring f
     → divided ring G units f ≡ done remainder quotients left → HasDivided ring G f remainder quotients
 
 -- the remainder of a monic polynomial by monic ones has its lead and is monic, if none of their leads divides that lead
 abbrev pub DivisionKeepsLead : Type 0
 DivisionKeepsLead =
     (ring : Ring) (D : List (List Term)) (f remainder : List Term) (quotients : List (List Term)) → 1 < ring.modulus → AreMonic ring D → IsCanonical ring f
-    → lead_coefficient f ≡ 1 → HasDivided ring D f remainder quotients → ((j : ℕ) → j < length D → ¬ IsTrue (divides (lead_at D j) (lead f)))
-    → (lead remainder ≡ lead f) × (lead_coefficient remainder ≡ 1)
+    → leading_coefficient f ≡ 1 → HasDivided ring D f remainder quotients
+    → ((j : ℕ) → j < length D → ¬ IsTrue (divides (leading_monomial_at D j) (leading_monomial f)))
+    → (leading_monomial remainder ≡ leading_monomial f) × (leading_coefficient remainder ≡ 1)
 
 -- a minimal basis of monic members in ascending order, each of them divided by the results before it, becomes the reduced one
 abbrev pub AutoreductionReduces : Type 0

@@ -1,9 +1,9 @@
 //! The division of a polynomial by a list of polynomials.
 
-ghost use Rattle.std.specs.Prelude.{◌≡◌, ◌<◌, ◌≤◌, ◌+◌, ◌-◌, ◌++◌, ℕ, [], ◌∷◌, true, false, length, slice_index_or, replicate, IsTrue, IsNone, IfSome, IfOk, OnOk, OnErr, IsErrOf, IfErr};
+ghost use Rattle.std.specs.Prelude.{◌≡◌, ◌<◌, ◌≤◌, ◌-◌, ◌++◌, ℕ, [], ◌∷◌, true, false, length, slice_index_or, replicate, IsTrue, IsNone, IfSome, IfOk, OnOk, OnErr, IsErrOf, IfErr};
 ghost use Rattle.cgs_exps.specs.Monomial as monomial;
-ghost use Rattle.cgs_poly.specs.Polynomial.{IsRing, IsPoly, places, term, greatest_degree};
-ghost use Rattle.cgs_poly.specs.Product.{lead, lead_coefficient, multiple};
+ghost use Rattle.cgs_poly.specs.Polynomial.{IsRing, IsPoly, places, term, greatest_degree, ArePolys};
+ghost use Rattle.cgs_poly.specs.Product.{leading_monomial, multiple};
 ghost use Rattle.cgs_poly.specs.Draft.{HaveLength};
 ghost use Rattle.cgs_algebra.specs.Groebner.{AreMonic};
 ghost use Rattle.cgs_divide.specs.DivisionRun.{divided, done, out_of_budget, out_of_degree, is_too_high};
@@ -38,11 +38,11 @@ pub fn divide(
     requires ring { IsRing ring.now }
     requires poly { IsPoly ring.now f.now }
     requires monic { AreMonic ring.now divisors.now }
-    requires divisors { (i : ℕ) → i < length divisors.now → IsPoly ring.now (slice_index_or divisors.now i []) }
+    requires divisors { ArePolys ring.now divisors.now }
     ensures ok { IfOk result (λ d. divided ring.now divisors.now fuel.old f.now ≡ done d.remainder d.quotients fuel.new) }
     ensures found { IfOk result (λ d. HasDivided ring.now divisors.now f.now d.remainder d.quotients) }
     ensures remainder { IfOk result (λ d. IsPoly ring.now d.remainder) }
-    ensures quotients { IfOk result (λ d. (i : ℕ) → i < length divisors.now → IsPoly ring.now (slice_index_or d.quotients i [])) }
+    ensures quotients { IfOk result (λ d. ArePolys ring.now d.quotients) }
     ensures budget { IsErrOf result Stop.Budget → divided ring.now divisors.now fuel.old f.now ≡ out_of_budget fuel.new }
     ensures degree { IsErrOf result Stop.Degree → divided ring.now divisors.now fuel.old f.now ≡ out_of_degree fuel.new }
     ensures units { fuel.new ≤ fuel.old }
@@ -74,7 +74,7 @@ pub fn divide(
     }
     Ok(Division {
         remainder,
-        quotients: list_of(alloc, quotients)?,
+        quotients: PolyList::from_vec(quotients),
     })
 }
 
@@ -89,22 +89,11 @@ fn zeros(alloc: Global, count: usize) -> Result<Vec<Poly>, AllocError>
     Ok(zeros)
 }
 
-// The same polynomials in a list.
-fn list_of(alloc: Global, polys: Vec<Poly>) -> Result<PolyList, AllocError>
-    ensures { IfOk result (λ list. list ≡ polys.items) }
-{
-    let mut list = PolyList::new(alloc);
-    for poly in polys {
-        list.push(poly)?;
-    }
-    Ok(list)
-}
-
 // The place of the first divisor whose lead divides a monomial.
 fn first_divisor(divisors: &PolyList, m: &[u16]) -> Option<usize>
     requires places { length m.now ≤ MAX_PLACES }
     requires some { (i : ℕ) → i < length divisors.now → 0 < length (slice_index_or divisors.now i []) }
-    requires lengths { (i : ℕ) → i < length divisors.now → length (lead (slice_index_or divisors.now i [])) ≡ length m.now }
+    requires lengths { (i : ℕ) → i < length divisors.now → length (leading_monomial (slice_index_or divisors.now i [])) ≡ length m.now }
     ensures none { IsNone result → length divisors.now ≤ run.first_divisor divisors.now m.now }
     ensures first { IfSome result (λ i. (i < length divisors.now) × (run.first_divisor divisors.now m.now ≡ i)) }
 {
@@ -149,15 +138,15 @@ fn reduced(
     requires low { monomial.degree leading.now.exponents.now ≤ greatest_degree }
     requires divisor { IsPoly ring.now divisor.now }
     requires some { 0 < length divisor.now }
-    requires divides { IsTrue (monomial.divides (lead divisor.now) leading.now.exponents.now) }
+    requires divides { IsTrue (monomial.divides (leading_monomial divisor.now) leading.now.exponents.now) }
     requires lengths { HaveLength (places ring.now) quotient.old }
-    ensures ok { IfOk result (λ h. left h f.now ≡ run.less_multiple ring.now (left rest.now f.now) leading.now.coefficient (monomial.quotient leading.now.exponents.now (lead divisor.now)) divisor.now) }
+    ensures ok { IfOk result (λ h. left h f.now ≡ run.less_multiple ring.now (left rest.now f.now) leading.now.coefficient (monomial.quotient leading.now.exponents.now (leading_monomial divisor.now)) divisor.now) }
     ensures rest { IfOk result (λ h. IsRest ring.now f.now h) }
-    ensures quotient { OnOk result (quotient.new ≡ quotient.old ++ term leading.now.coefficient (monomial.quotient leading.now.exponents.now (lead divisor.now)) ∷ []) }
+    ensures quotient { OnOk result (quotient.new ≡ quotient.old ++ term leading.now.coefficient (monomial.quotient leading.now.exponents.now (leading_monomial divisor.now)) ∷ []) }
     ensures paid { OnOk result ((length divisor.now ≤ fuel.old) × (fuel.new ≡ fuel.old - length divisor.now)) }
-    ensures low { OnOk result (is_too_high (multiple leading.now.coefficient (monomial.quotient leading.now.exponents.now (lead divisor.now)) divisor.now) ≡ false) }
+    ensures low { OnOk result (is_too_high (multiple leading.now.coefficient (monomial.quotient leading.now.exponents.now (leading_monomial divisor.now)) divisor.now) ≡ false) }
     ensures budget { IsErrOf result Stop.Budget → (fuel.old < length divisor.now) × (fuel.new ≡ fuel.old) }
-    ensures degree { IsErrOf result Stop.Degree → (length divisor.now ≤ fuel.old) × (fuel.new ≡ fuel.old - length divisor.now) × (is_too_high (multiple leading.now.coefficient (monomial.quotient leading.now.exponents.now (lead divisor.now)) divisor.now) ≡ true) }
+    ensures degree { IsErrOf result Stop.Degree → (length divisor.now ≤ fuel.old) × (fuel.new ≡ fuel.old - length divisor.now) × (is_too_high (multiple leading.now.coefficient (monomial.quotient leading.now.exponents.now (leading_monomial divisor.now)) divisor.now) ≡ true) }
     ensures memory { fuel.new ≤ fuel.old }
 {
     spend(fuel, divisor.len() as u64)?;

@@ -1,7 +1,7 @@
 //! Worked runs modulo 7 in x and y with the order lex.
 
-ghost use Rattle.std.specs.Prelude.{◌≡◌, ◌<◌, ℕ, [], length, slice_index_or, IfSome, IfOk};
-ghost use Rattle.cgs_poly.specs.Polynomial.{IsRing, IsPoly, places};
+ghost use Rattle.std.specs.Prelude.{◌≡◌, [], IfSome, IfOk};
+ghost use Rattle.cgs_poly.specs.Polynomial.{IsRing, IsPoly, places, ArePolys};
 ghost use Rattle.cgs_algebra.specs.Groebner.{AreMonic};
 
 use crate::{Division, Stop, divide};
@@ -137,7 +137,7 @@ fn divisors(alloc: Global, ring: &Ring, rows: &[Terms<'_>]) -> Result<PolyList, 
     requires valid { IsRing ring.now }
     requires two { places ring.now ≡ 2 }
     ensures monic { IfOk result (λ G. AreMonic ring.now G) }
-    ensures polys { IfOk result (λ G. (i : ℕ) → i < length G → IsPoly ring.now (slice_index_or G i [])) }
+    ensures polys { IfOk result (λ G. ArePolys ring.now G) }
 {
     let mut list = PolyList::new(alloc);
     for terms in rows {

@@ -1,22 +1,24 @@
 -- The entries of a*x - 1 modulo 7, and lists that are none.
-use Rattle.std.proofs.Common.{ℕ, zero, suc, ◌≡◌, ◌+◌, ◌*◌, ◌%◌, ◌<◌, Bool, true, false, List, [], ◌∷◌, length, get_or, map, refl, sym, ap, ◌∙◌, subst, IsTrue, arith, eqb}
+use Rattle.std.proofs.Common.{ℕ, zero, suc, ◌≡◌, ◌+◌, ◌*◌, ◌%◌, ◌<◌, Bool, true, false, List, [], ◌∷◌, length, get_or, map, refl, sym, ap, ◌∙◌, subst, IsTrue}
+use Rattle.std.proofs.Common.{arith, eqb}
 use Rattle.cgs_order.specs.TermOrder.{key, compared}
 use Rattle.std.proofs.Math.Nat.{add-mul-mod_self_right}
 use Rattle.cgs_exps.specs.Monomial.{divides}
 use Rattle.cgs_exps.proofs.MonomialLemmas.{product_comm, one_product, divides_product}
-use Rattle.cgs_poly.specs.Product.{lead}
+use Rattle.cgs_poly.specs.Product.{leading_monomial}
 use Rattle.cgs_poly.specs.Polynomial.{Term, term, IsCanonical}
 use Rattle.cgs_poly.specs.Parameters.{value_at, variables_ring, specialised_terms, specialised}
 use Rattle.cgs_poly.proofs.CanonicalLemmas.{is_canonical}
 use Rattle.cgs_poly.proofs.MultipleLemmas.{lead_length}
 use Rattle.cgs_algebra.specs.Combination.{IsMember}
-use Rattle.cgs_algebra.specs.Groebner.{lead_at, IsMinimal}
+use Rattle.cgs_algebra.specs.Groebner.{leading_monomial_at, IsMinimal}
 use Rattle.cgs_algebra.proofs.MemberLemmas.{scaled_member, generator_member}
 use Rattle.cgs_algebra.proofs.OneLemmas.{at_one}
 use Rattle.cgs_point.specs.Points.{IsPoint}
 use Rattle.cgs_entry.specs.Conditions.{IsInRegion}
 use Rattle.cgs_entry.specs.Entries.{IsBasisAt, entries_at}
-use Rattle.cgs_entry.specs.Examples.{seven, only_a, only_x, one, line, line_times_a, solved, LineIsSolved, GapIsRefused, OverlapIsRefused, WrongBasisIsRefused, VanishingLeadIsRefused, RepeatedLeadIsRefused}
+use Rattle.cgs_entry.specs.Examples.{seven, only_a, only_x, one, line, line_times_a, solved, LineIsSolved, GapIsRefused, OverlapIsRefused, WrongBasisIsRefused}
+use Rattle.cgs_entry.specs.Examples.{VanishingLeadIsRefused, RepeatedLeadIsRefused}
 use Rattle.cgs_entry.proofs.SingleLemmas.{single_minimal}
 
 is_point : (n : ℕ) → n < 7 → IsPoint seven (n ∷ [])
@@ -74,11 +76,12 @@ unfolding key compared
 wrong_basis_refused h =
     let s : IsBasisAt seven (0 ∷ []) (line ∷ []) (only_x ∷ []) = h.sound.1.0 (0 ∷ []) (is_point 0 (omega arith)) (record { vanish = (refl, tt); stand = tt }) in
     let d = s.minimal.groebner.leads six (omega arith, omega arith, refl, tt, tt) six_member (λ e. cc) in
-    at_one (λ i. IsTrue (divides (lead_at ((term 1 (1 ∷ []) ∷ []) ∷ []) i) (lead six)) → ⊥) (λ e. cc) d.0 d.1 d.2
+    at_one (λ i. IsTrue (divides (leading_monomial_at ((term 1 (1 ∷ []) ∷ []) ∷ []) i) (leading_monomial six)) → ⊥) (λ e. cc) d.0 d.1 d.2
 
 -- the line is solved
 
-cover_at : (n : ℕ) (b : Bool) → eqb (value_at seven (n ∷ []) only_a) 0 ≡ b → entries_at seven (n ∷ []) (solved 0 [] (only_a ∷ []) (line ∷ []) ∷ solved 1 (only_a ∷ []) [] (one ∷ []) ∷ []) ≡ 1
+cover_at : (n : ℕ) (b : Bool) → eqb (value_at seven (n ∷ []) only_a) 0 ≡ b
+    → entries_at seven (n ∷ []) (solved 0 [] (only_a ∷ []) (line ∷ []) ∷ solved 1 (only_a ∷ []) [] (one ∷ []) ∷ []) ≡ 1
 cover_at n true e = rw e refl
 cover_at n false e = rw e refl
 
@@ -89,7 +92,8 @@ some_at n l = at_seven (λ n. ¬ (specialised seven (n ∷ []) line ≡ [])) (λ
 line_serves : (n : ℕ) → n < 7 → ¬ (value_at seven (n ∷ []) only_a ≡ 0) → IsBasisAt seven (n ∷ []) (line ∷ []) (line ∷ [])
 line_serves n l h = record {
   leading = (h, tt);
-  minimal = single_minimal (variables_ring seven) (record { modulus = refl; some = omega arith; variables = omega arith; parameters = omega arith }) (specialised seven (n ∷ []) line)
+  minimal = single_minimal (variables_ring seven) (record { modulus = refl; some = omega arith; variables = omega arith; parameters = omega arith })
+      (specialised seven (n ∷ []) line)
       (is_canonical (variables_ring seven) (specialised_terms seven (n ∷ []) line) (omega arith) (refl, (refl, tt))) (some_at n l);
 }
 
@@ -110,9 +114,10 @@ one_minimal = record {
   groebner = record {
     canonical = at_one (λ i. IsCanonical (variables_ring seven) (get_or (one_at_zero ∷ []) i [])) (omega arith, omega arith, refl, tt, tt);
     members = at_one (λ i. IsMember (variables_ring seven) (six ∷ []) (get_or (one_at_zero ∷ []) i []))
-        (scaled_member (variables_ring seven) (six ∷ []) (omega arith) 6 six one_at_zero (λ w. thirty_six (w (0 ∷ []))) (generator_member (variables_ring seven) (six ∷ []) (omega arith) 0 (omega arith) (refl, tt)));
+        (scaled_member (variables_ring seven) (six ∷ []) (omega arith) 6 six one_at_zero (λ w. thirty_six (w (0 ∷ [])))
+        (generator_member (variables_ring seven) (six ∷ []) (omega arith) 0 (omega arith) (refl, tt)));
     not_zero = at_one (λ i. ¬ (get_or (one_at_zero ∷ []) i [] ≡ [])) (λ e. cc);
-    leads = λ f k m some. (0, omega arith, one_divides (lead f) (lead_length (variables_ring seven) f k some));
+    leads = λ f k m some. (0, omega arith, one_divides (leading_monomial f) (lead_length (variables_ring seven) f k some));
   };
   apart = λ i j hi hj n d. n (omega (arith, hi, hj));
 }
@@ -126,14 +131,16 @@ one_serves = record {
 unless_zero : (n : ℕ) → n < 7 → value_at seven (n ∷ []) only_a ≡ 0 → IsBasisAt seven (n ∷ []) (line ∷ []) (one ∷ [])
 unless_zero n l =
     at_seven (λ n. value_at seven (n ∷ []) only_a ≡ 0 → IsBasisAt seven (n ∷ []) (line ∷ []) (one ∷ []))
-    (λ e. one_serves) (λ e. absurd (not_zero 0 e)) (λ e. absurd (not_zero 1 e)) (λ e. absurd (not_zero 2 e)) (λ e. absurd (not_zero 3 e)) (λ e. absurd (not_zero 4 e)) (λ e. absurd (not_zero 5 e)) n l
+    (λ e. one_serves) (λ e. absurd (not_zero 0 e)) (λ e. absurd (not_zero 1 e)) (λ e. absurd (not_zero 2 e))
+    (λ e. absurd (not_zero 3 e)) (λ e. absurd (not_zero 4 e)) (λ e. absurd (not_zero 5 e)) n l
   where
     not_zero : (k : ℕ) → suc k ≡ 0 → ⊥
     not_zero k e = omega arith
 
 pub line_solved : LineIsSolved
 line_solved = record {
-  cover = by_number (λ a. entries_at seven a (solved 0 [] (only_a ∷ []) (line ∷ []) ∷ solved 1 (only_a ∷ []) [] (one ∷ []) ∷ []) ≡ 1) (λ n l. cover_at n (eqb (value_at seven (n ∷ []) only_a) 0) refl);
+  cover = by_number (λ a. entries_at seven a (solved 0 [] (only_a ∷ []) (line ∷ []) ∷ solved 1 (only_a ∷ []) [] (one ∷ []) ∷ []) ≡ 1)
+      (λ n l. cover_at n (eqb (value_at seven (n ∷ []) only_a) 0) refl);
   sound = (
     by_number (λ a. IsInRegion seven [] (only_a ∷ []) a → IsBasisAt seven a (line ∷ []) (line ∷ [])) (λ n l inside. line_serves n l inside.stand.0),
     (by_number (λ a. IsInRegion seven (only_a ∷ []) [] a → IsBasisAt seven a (line ∷ []) (one ∷ [])) (λ n l inside. unless_zero n l inside.vanish.0), tt),

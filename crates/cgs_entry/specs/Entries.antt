@@ -2,7 +2,7 @@
 use Rattle.std.specs.Prelude.{ℕ, ◌≡◌, Bool, true, false, cond, List, map, count_by}
 use Rattle.std.specs.List.{AllByRecursion}
 use Rattle.cgs_poly.specs.declared.ring.Ring.{Ring}
-use Rattle.cgs_poly.specs.Polynomial.{Term, IsPoly}
+use Rattle.cgs_poly.specs.Polynomial.{Term, ArePolys}
 use Rattle.cgs_poly.specs.Parameters.{lc_x, variables_ring, IsCondition}
 use Rattle.cgs_algebra.specs.Groebner.{IsMinimal}
 use Rattle.cgs_algebra.specs.Specialisation.{specialised_list, NoneVanishes}
@@ -14,7 +14,7 @@ use Rattle.cgs_entry.specs.Conditions.{IsInRegion, is_in_region}
 
 -- the basis, where there is one, is of the ring
 abbrev pub IsFound : Ring → EntryKind → Type 0
-IsFound ring (Solved basis tested) = AllByRecursion (IsPoly ring) basis
+IsFound ring (Solved basis tested) = ArePolys ring basis
 IsFound ring (Refused cause) = Unit {0}
 
 -- an entry over a ring: its conditions are in the parameters alone, and its basis is of the ring
@@ -34,7 +34,12 @@ pub record IsBasisAt (ring : Ring) (point : List ℕ) (F B : List (List Term)) :
 
 -- at each point of its region the basis of a solved entry is one of what the polynomials become; a refused entry has none
 abbrev pub IsSound : Ring → List (List Term) → Entry → Type 0
-IsSound ring polys entry = elim entry.kind [ Solved basis tested ↦ (point : List ℕ) → IsPoint ring point → IsInRegion ring entry.conditions.zero entry.conditions.nonzero point → IsBasisAt ring point polys basis | Refused cause ↦ Unit {0} ]
+IsSound ring polys entry =
+    elim entry.kind [
+      | Solved basis tested ↦ (point : List ℕ) → IsPoint ring point → IsInRegion ring entry.conditions.zero entry.conditions.nonzero point
+          → IsBasisAt ring point polys basis
+      | Refused cause ↦ Unit {0}
+    ]
 
 -- the number of entries whose region has the point
 abbrev pub entries_at : Ring → List ℕ → List Entry → ℕ

@@ -1,7 +1,7 @@
 -- The laws of monomials.
-use Rattle.std.proofs.Common.{ℕ, ◌≡◌, ◌+◌, ◌-◌, ◌≤◌, ◌<◌, get_or, sym, ap, ◌∙◌, true, List, [], ◌∷◌, length, take, refl, add_assoc, arith, max, zero, suc, replicate}
+use Rattle.std.proofs.Common.{ℕ, ◌≡◌, ◌+◌, ◌-◌, ◌≤◌, sym, ap, ◌∙◌, true, List, [], ◌∷◌, length, take, refl, add_assoc, arith, max, zero, suc, replicate}
 use Rattle.std.proofs.lemmas.Bool.{and_parts, and_from, leb-true, le-leb}
-use Rattle.std.proofs.lemmas.List.Sums.{sum_by-cons, get_or-le-sum_by}
+use Rattle.std.proofs.lemmas.List.Sums.{sum_by-cons}
 use Rattle.cgs_exps.specs.Monomial.{degree, product, divides, quotient, lcm}
 
 pub product_assoc : (a b c : List ℕ) → product (product a b) c ≡ product a (product b c)
@@ -176,7 +176,3 @@ pub degree_quotient : (a b : List ℕ) → length a ≡ length b → divides b a
 degree_quotient a b p d =
     let l : length (quotient a b) ≡ length b = quotient_length a b (length b) p refl in
     sym (degree_product (quotient a b) b l) ∙ ap degree (quotient_product a b p d)
-
--- no exponent is greater than the degree
-pub exponent_degree : (a : List ℕ) (k : ℕ) → k < length a → get_or a k 0 ≤ degree a
-exponent_degree a k l = get_or-le-sum_by (λ n. n) a k 0 l

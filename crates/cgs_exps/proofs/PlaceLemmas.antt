@@ -1,14 +1,15 @@
 -- The operations place by place.
-use Rattle.std.proofs.Common.{ℕ, zero, suc, ◌≡◌, ◌≢◌, ◌+◌, ◌-◌, ◌<◌, ◌≤◌, max, true, false, ◌==◌, ◌||◌, nat_le, List, [], ◌∷◌, length, drop, get_or, refl, sym, arith}
+use Rattle.std.proofs.Common.{ℕ, zero, suc, ◌≡◌, ◌+◌, ◌-◌, ◌<◌, ◌≤◌, max, true, ◌==◌, ◌||◌, List, [], ◌∷◌, length, drop, get_or, refl, sym, arith}
 use Rattle.std.proofs.lemmas.List.{drop_more}
-use Rattle.std.proofs.lemmas.Bool.{and_parts, leb-true, le-leb}
+use Rattle.std.proofs.lemmas.Bool.{and_parts, leb-true}
 use Rattle.std.proofs.lemmas.Bool.Decides.{nat_tests}
 use Rattle.cgs_exps.specs.Monomial.{product, divides, coprime, quotient, lcm}
 
 -- what holds of the exponents at each place holds of the lists
 
 places : (f : ℕ → ℕ → ℕ) (op : List ℕ → List ℕ → List ℕ) → op [] [] ≡ [] → ((x y : ℕ) (a b : List ℕ) → op (x ∷ a) (y ∷ b) ≡ f x y ∷ op a b)
-    → (out a b : List ℕ) → length a ≡ length b → length out ≡ length a → ((k : ℕ) → k < length a → get_or out k 0 ≡ f (get_or a k 0) (get_or b k 0)) → out ≡ op a b
+    → (out a b : List ℕ) → length a ≡ length b → length out ≡ length a
+    → ((k : ℕ) → k < length a → get_or out k 0 ≡ f (get_or a k 0) (get_or b k 0)) → out ≡ op a b
 places f op none step [] [] [] p q h = sym none
 places f op none step (z ∷ zs) [] b p q h = absurd (omega arith)
 places f op none step [] (x ∷ xs) b p q h = absurd (omega arith)
@@ -19,37 +20,27 @@ places f op none step (z ∷ zs) (x ∷ xs) (y ∷ ys) p q h =
     let tail : zs ≡ op xs ys = places f op none step zs xs ys (omega arith) (omega arith) (λ k l. h (suc k) (omega arith)) in
     cc (head, tail, step x y xs ys)
 
-pub lcm_places : (out a b : List ℕ) → length a ≡ length b → length out ≡ length a → ((k : ℕ) → k < length a → get_or out k 0 ≡ max (get_or a k 0) (get_or b k 0)) → out ≡ lcm a b
+pub lcm_places : (out a b : List ℕ) → length a ≡ length b → length out ≡ length a
+    → ((k : ℕ) → k < length a → get_or out k 0 ≡ max (get_or a k 0) (get_or b k 0)) → out ≡ lcm a b
 lcm_places = places max lcm refl (λ x y a b. refl)
 
-pub quotient_places : (out a b : List ℕ) → length a ≡ length b → length out ≡ length a → ((k : ℕ) → k < length a → get_or out k 0 ≡ get_or a k 0 - get_or b k 0) → out ≡ quotient a b
+pub quotient_places : (out a b : List ℕ) → length a ≡ length b → length out ≡ length a
+    → ((k : ℕ) → k < length a → get_or out k 0 ≡ get_or a k 0 - get_or b k 0) → out ≡ quotient a b
 quotient_places = places (λ x y. x - y) quotient refl (λ x y a b. refl)
 
-pub product_places : (out a b : List ℕ) → length a ≡ length b → length out ≡ length a → ((k : ℕ) → k < length a → get_or out k 0 ≡ get_or a k 0 + get_or b k 0) → out ≡ product a b
+pub product_places : (out a b : List ℕ) → length a ≡ length b → length out ≡ length a
+    → ((k : ℕ) → k < length a → get_or out k 0 ≡ get_or a k 0 + get_or b k 0) → out ≡ product a b
 product_places = places (λ x y. x + y) product refl (λ x y a b. refl)
 
 -- tests of the places from one on
 
 module _ (a b : List ℕ) (i : ℕ) (p : length a ≡ length b) (h : i < length a) where
-  pub divides_more : get_or a i 0 ≤ get_or b i 0 → divides (drop i a) (drop i b) ≡ divides (drop (i + 1) a) (drop (i + 1) b)
-  divides_more l = rw (drop_more a i 0 h, drop_more b i 0 (omega arith), le-leb (get_or a i 0) (get_or b i 0) l) refl
-
-  pub divides_less : get_or b i 0 < get_or a i 0 → divides (drop i a) (drop i b) ≡ false
-  divides_less l =
-      let e : nat_le (get_or a i 0) (get_or b i 0) ≡ false = grind (arith, nat_tests) in
-      rw (drop_more a i 0 h, drop_more b i 0 (omega arith), e) refl
-
   pub coprime_more_left : get_or a i 0 ≡ 0 → coprime (drop i a) (drop i b) ≡ coprime (drop (i + 1) a) (drop (i + 1) b)
   coprime_more_left l = rw (drop_more a i 0 h, drop_more b i 0 (omega arith), l) refl
 
   pub coprime_more_right : get_or b i 0 ≡ 0 → coprime (drop i a) (drop i b) ≡ coprime (drop (i + 1) a) (drop (i + 1) b)
   coprime_more_right l =
       let e : ((get_or a i 0 == 0) || (get_or b i 0 == 0)) ≡ true = grind (arith, nat_tests) in
-      rw (drop_more a i 0 h, drop_more b i 0 (omega arith), e) refl
-
-  pub coprime_less : get_or a i 0 ≢ 0 → get_or b i 0 ≢ 0 → coprime (drop i a) (drop i b) ≡ false
-  coprime_less l m =
-      let e : ((get_or a i 0 == 0) || (get_or b i 0 == 0)) ≡ false = grind (arith, nat_tests) in
       rw (drop_more a i 0 h, drop_more b i 0 (omega arith), e) refl
 
 -- a divisor has no greater exponent at any place

@@ -30,7 +30,8 @@ first_rows p a positive below = record {
 }
 
 -- the next row is that before without the quotient times the later one
-gives_next : (p a : ℕ) (opposite : Bool) (b s r f q n : ℕ) → 0 < p → q * r + n ≡ b → Gives p a (not opposite) s b → Gives p a opposite f r → Gives p a (not opposite) (s + q * f) n
+gives_next : (p a : ℕ) (opposite : Bool) (b s r f q n : ℕ) → 0 < p → q * r + n ≡ b → Gives p a (not opposite) s b
+    → Gives p a opposite f r → Gives p a (not opposite) (s + q * f) n
 gives_next p a false b s r f q n pos d e l =
     let m : (q * (f * a)) % p ≡ (q * r) % p = mod_mul p q q (f * a) r refl l in
     let t : ((s * a + n) + q * (f * a)) % p ≡ ((s * a + n) + q * r) % p = mod_add p (s * a + n) (s * a + n) (q * (f * a)) (q * r) refl m in
@@ -86,7 +87,8 @@ next_rows p a opposite b s r f q n prime d below above h = record {
 
 -- the last row has the remainder 1
 pub last_factor : (p a b s r f : ℕ) (opposite : Bool) → r ≤ 1 → AreRows p a opposite b s r f → f < p
-last_factor p a b s r f opposite end h = omega (arith, h.whole, h.some, h.falling, h.positive, mul-le f 2 f b (omega arith) (omega (arith, h.falling, h.positive)))
+last_factor p a b s r f opposite end h =
+    omega (arith, h.whole, h.some, h.falling, h.positive, mul-le f 2 f b (omega arith) (omega (arith, h.falling, h.positive)))
 
 pub last_plain : (p a b s r f : ℕ) → IsPrime p → r ≤ 1 → AreRows p a false b s r f → (a * f) % p ≡ 1
 last_plain p a b s r f prime end h =

@@ -51,6 +51,7 @@ gather_sum q k x y c z = omega arith
 pub mod_gather : (p k x y c z : ℕ) → 0 < p → (k * x + (c * y + z)) % p ≡ ((k + c) * y + ((k * x + ((p - 1) * k) * y) + z)) % p
 mod_gather p k x y c z h =
     let a : ℕ = k * x + (c * y + z) in
-    let s : (a + (k * y + (p - 1) * (k * y))) % p ≡ (a + 0) % p = mod_add p a a (k * y + (p - 1) * (k * y)) 0 refl (mod_opposite p (k * y) h ∙ sym (zero-mod p)) in
+    let s : (a + (k * y + (p - 1) * (k * y))) % p ≡ (a + 0) % p =
+    mod_add p a a (k * y + (p - 1) * (k * y)) 0 refl (mod_opposite p (k * y) h ∙ sym (zero-mod p)) in
     let e : a + 0 ≡ a = omega arith in
     sym (ap (λ n. n % p) (gather_sum (p - 1) k x y c z) ∙ (s ∙ ap (λ n. n % p) e))

@@ -1,5 +1,6 @@
 -- Each modulus of the table is prime, and makes a field.
-use Rattle.std.proofs.Common.{ℕ, zero, suc, ◌≡◌, ◌+◌, ◌-◌, ◌*◌, ◌/◌, ◌%◌, ◌<◌, ◌≤◌, ◌⊎◌, inl, inr, Bool, true, ◌&&◌, ◌||◌, not, List, [], ◌∷◌, refl, sym, ap, ◌∙◌, subst, arith, eqb, ltb, leb, ◌==◌}
+use Rattle.std.proofs.Common.{ℕ, zero, suc, ◌≡◌, ◌+◌, ◌-◌, ◌*◌, ◌/◌, ◌%◌, ◌<◌, ◌≤◌, ◌⊎◌, inl, inr, Bool, true, ◌&&◌, ◌||◌, not, List, [], ◌∷◌, refl, sym, ap}
+use Rattle.std.proofs.Common.{◌∙◌, subst, arith, eqb, ltb, leb, ◌==◌}
 use Rattle.std.specs.List.{list_any}
 use Rattle.std.proofs.Math.Nat.{mod-lt, mod-eq_of_lt, mod_self, div-add-mod', mul-mod_left, mul_comm, add_comm}
 use Rattle.std.proofs.lemmas.Bool.{and_parts, or_cases, not-true, ltb-true, leb-true, eqb-true, eqb-false, cases_order, cases_lt}
@@ -70,7 +71,8 @@ inverse_step : (p a s c q : ℕ) → 0 < p → q * a + s ≡ p → (s * c) % p �
 inverse_step p a s c q pos e h =
     let z : (q * a + (p - 1) * (q * a)) % p ≡ 0 = mod_opposite p (q * a) pos in
     let y : (q * a + s) % p ≡ 0 = ap (λ n. n % p) e ∙ mod_self p in
-    let w : ((p - 1) * (q * a) + q * a) % p ≡ (s + q * a) % p = ap (λ n. n % p) (add_comm ((p - 1) * (q * a)) (q * a)) ∙ (z ∙ (sym y ∙ ap (λ n. n % p) (add_comm (q * a) s))) in
+    let w : ((p - 1) * (q * a) + q * a) % p ≡ (s + q * a) % p =
+    ap (λ n. n % p) (add_comm ((p - 1) * (q * a)) (q * a)) ∙ (z ∙ (sym y ∙ ap (λ n. n % p) (add_comm (q * a) s))) in
     let m : ((p - 1) * (q * a)) % p ≡ s % p = mod_cancel p ((p - 1) * (q * a)) s (q * a) pos w in
     let f : a * ((p - 1) * (q * c)) ≡ ((p - 1) * (q * a)) * c = regroup (p - 1) a q c in
     ap (λ n. n % p) f ∙ (mod_mul p ((p - 1) * (q * a)) s c c m refl ∙ h)
@@ -81,7 +83,8 @@ inverse_step p a s c q pos e h =
 -- by induction on a, with the remainder of p by a
 inverse_below : (p : ℕ) → IsPrime p → (n a : ℕ) → a < n → 0 < a → a < p → Inverse p a
 inverse_below p prime zero a l u v = absurd (omega arith)
-inverse_below p prime (suc n) a l u v = by_size a refl (cases_lt 1 a) (λ s. inverse_below p prime n (p % a) (omega (arith, mod-lt p u)) s (omega (arith, mod-lt p u)))
+inverse_below p prime (suc n) a l u v =
+    by_size a refl (cases_lt 1 a) (λ s. inverse_below p prime n (p % a) (omega (arith, mod-lt p u)) s (omega (arith, mod-lt p u)))
   where
     by_size : (b : ℕ) → b ≡ a → (1 < b) ⊎ (b ≤ 1) → (0 < p % a → (c : ℕ) × (((p % a) * c) % p ≡ 1)) → (c : ℕ) × ((a * c) % p ≡ 1)
     by_size b e (inr s) ih =

@@ -15,7 +15,7 @@ use Rattle.cgs_order.specs.TermOrder.{partial_sums, block_key, key, compared}
 
 -- numbers
 
-nat_cmp_equal : (x y : ℕ) → nat_cmp x y ≡ Equal → x ≡ y
+pub nat_cmp_equal : (x y : ℕ) → nat_cmp x y ≡ Equal → x ≡ y
 nat_cmp_equal x y h = grind (arith, nat_tests)
 
 nat_cmp_less : (x y : ℕ) → nat_cmp x y ≡ Less → x < y
@@ -26,7 +26,8 @@ nat_cmp_self x = grind (arith, nat_tests)
 
 -- lists of numbers
 
-cmp_equal_step : (x y : ℕ) (xs ys : List ℕ) (o : Ordering) → nat_cmp x y ≡ o → ordering_then o (slice_cmp nat_cmp xs ys) ≡ Equal → (slice_cmp nat_cmp xs ys ≡ Equal → xs ≡ ys) → x ∷ xs ≡ y ∷ ys
+cmp_equal_step : (x y : ℕ) (xs ys : List ℕ) (o : Ordering) → nat_cmp x y ≡ o → ordering_then o (slice_cmp nat_cmp xs ys) ≡ Equal
+    → (slice_cmp nat_cmp xs ys ≡ Equal → xs ≡ ys) → x ∷ xs ≡ y ∷ ys
 cmp_equal_step x y xs ys Less e k ih = cc
 cmp_equal_step x y xs ys Equal e k ih = cc (nat_cmp_equal x y e, ih k)
 cmp_equal_step x y xs ys Greater e k ih = cc
@@ -82,7 +83,7 @@ block_same Lex a b p e = e
 block_same GrLex a b p e = cc
 block_same GrevLex a b p e = partial_sums_same 0 a b (reverse_same (partial_sums 0 a) (partial_sums 0 b) e)
 
-parts_length : (n : ℕ) (a b : List ℕ) → length a ≡ length b → (length (take n a) ≡ length (take n b)) × (length (drop n a) ≡ length (drop n b))
+pub parts_length : (n : ℕ) (a b : List ℕ) → length a ≡ length b → (length (take n a) ≡ length (take n b)) × (length (drop n a) ≡ length (drop n b))
 parts_length n a b p = (omega (arith, length-take n a, length-take n b), omega (arith, length-drop n a, length-drop n b))
 
 pub key_length : (order : BlockOrder) (a b : List ℕ) → length a ≡ length b → length (key order a) ≡ length (key order b)
@@ -90,7 +91,14 @@ unfolding key
 key_length order a b p =
     let n = order.head in
     let h = parts_length n a b p in
-    omega (arith, length-append (block_key order.kind (take n a)) (block_key order.kind (drop n a)), length-append (block_key order.kind (take n b)) (block_key order.kind (drop n b)), block_length order.kind (take n a) (take n b) h.0, block_length order.kind (drop n a) (drop n b) h.1)
+    omega (
+      arith,
+      length-append (block_key order.kind (take n a)) (block_key order.kind (drop n a)),
+      length-append (block_key order.kind (take n b))
+          (block_key order.kind (drop n b)),
+      block_length order.kind (take n a) (take n b) h.0,
+      block_length order.kind (drop n a) (drop n b) h.1,
+    )
 
 pub key_same : (order : BlockOrder) (a b : List ℕ) → length a ≡ length b → key order a ≡ key order b → a ≡ b
 unfolding key
@@ -140,7 +148,8 @@ below_ind : (P : ℕ → Type 0) → ((n : ℕ) → ((k : ℕ) → k < n → P k
 below_ind P step zero k h = absurd (omega arith)
 below_ind P step (suc n) k h = step k (λ j l. below_ind P step n j (omega arith))
 
-pub lex_induction : (n : ℕ) (P : List ℕ → Type 0) → ((a : List ℕ) → length a ≡ n → ((b : List ℕ) → length b ≡ n → slice_cmp nat_cmp b a ≡ Less → P b) → P a) → (a : List ℕ) → length a ≡ n → P a
+pub lex_induction : (n : ℕ) (P : List ℕ → Type 0) → ((a : List ℕ) → length a ≡ n → ((b : List ℕ) → length b ≡ n → slice_cmp nat_cmp b a ≡ Less → P b) → P a)
+    → (a : List ℕ) → length a ≡ n → P a
 lex_induction zero P step [] p = step [] p (λ b q l. absurd (nothing b q l))
   where
     nothing : (b : List ℕ) → length b ≡ 0 → slice_cmp nat_cmp b [] ≡ Less → ⊥
@@ -164,7 +173,9 @@ lex_induction (suc n) P step (x ∷ xs) p =
         by_head Greater e k = absurd (cc)
 
 -- what holds of a monomial if it holds of all smaller ones of the ring, holds of each
-pub compared_induction : (order : BlockOrder) (P : List ℕ → Type 0) → ((a : List ℕ) → length a ≡ order.head + order.tail → ((b : List ℕ) → length b ≡ order.head + order.tail → compared order b a ≡ Less → P b) → P a) → (a : List ℕ) → length a ≡ order.head + order.tail → P a
+pub compared_induction : (order : BlockOrder) (P : List ℕ → Type 0)
+    → ((a : List ℕ) → length a ≡ order.head + order.tail → ((b : List ℕ) → length b ≡ order.head + order.tail → compared order b a ≡ Less → P b) → P a)
+    → (a : List ℕ) → length a ≡ order.head + order.tail → P a
 unfolding compared
 compared_induction order P step a p =
     lex_induction (length (key order a)) (λ k. (b : List ℕ) → length b ≡ order.head + order.tail → key order b ≡ k → P b)

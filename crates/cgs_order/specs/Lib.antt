@@ -1,2 +1,3 @@
 pub mod TermOrder
 pub mod Laws
+pub mod Words

@@ -1,7 +1,8 @@
 //! Term orders on monomials: lexicographic, graded lexicographic and graded reverse lexicographic, in two blocks.
 //!
 //! Nothing stands below it. It promises that `compare` is the comparison of key lists, for any exponents and without
-//! making a list. Read first: `key`, `compared` (specs/TermOrder) and the laws (specs/Laws).
+//! making a list, and has the words that stand for the kinds in a file. Read first: `key`, `compared` (specs/TermOrder),
+//! the laws (specs/Laws) and `word_of` (specs/Words).
 #![tactic(auto)]
 
 mod block;

@@ -1,31 +1,23 @@
 -- The S-polynomial as two subtractions make it.
-use Rattle.std.proofs.Common.{ℕ, ◌≡◌, ◌-◌, ◌%◌, ◌<◌, Some, Ok, Err, List, [], ◌∷◌, ◌++◌, length, refl, sym, ap, ◌∙◌, arith}
+use Rattle.std.proofs.Common.{ℕ, ◌≡◌, ◌-◌, ◌%◌, ◌<◌, Ok, Err, List, [], ◌∷◌, ◌++◌, length, refl, sym, ap, ◌∙◌, arith}
 use Rattle.std.proofs.Math.Nat.{mod-eq_of_lt}
-use Rattle.std.specs.Prelude.{slice_get, Result, IsErrAnd, IsErrOf}
+use Rattle.std.specs.Prelude.{Result, IsErrAnd, IsErrOf}
 use Rattle.cgs_field.proofs.PrimeLemmas.{modulus_field}
 use Rattle.cgs_exps.specs.Monomial.{quotient, lcm}
 use Rattle.cgs_exps.proofs.MonomialLemmas.{quotient_length, lcm_length}
 use Rattle.cgs_poly.specs.declared.ring.Ring.{Ring}
 use Rattle.cgs_poly.specs.Polynomial.{Term, places, IsRing, IsOfRing, IsCanonical, HasLowDegrees, canonical}
 use Rattle.cgs_poly.specs.declared.fault.PolyFault.{PolyFault}
-use Rattle.cgs_poly.specs.Product.{multiple, lead}
+use Rattle.cgs_poly.specs.Product.{multiple, leading_monomial}
 use Rattle.cgs_poly.proofs.RingLemmas.{ring_positive}
 use Rattle.cgs_poly.proofs.SumLemmas.{alike_same, alike_append}
-use Rattle.cgs_poly.proofs.CanonicalLemmas.{canonical_of_ring, canonical_alike, canonical_same, is_canonical, append_of_ring, append_low}
+use Rattle.cgs_poly.proofs.CanonicalLemmas.{canonical_of_ring, canonical_alike, canonical_same, is_canonical, append_of_ring, append_low, low_front}
 use Rattle.cgs_poly.proofs.ProductLemmas.{multiple_of_ring, low_any}
 use Rattle.cgs_algebra.specs.SPolynomial.{s_terms}
-
-low_front : (f g : List Term) → HasLowDegrees (f ++ g) → HasLowDegrees f
-low_front [] g h = tt
-low_front (x ∷ f) g h = (h.0, low_front f g h.1)
 
 low_back : (f g : List Term) → HasLowDegrees (f ++ g) → HasLowDegrees g
 low_back [] g h = h
 low_back (x ∷ f) g h = low_back f g h.1
-
-pub lead_read : (f : List Term) (x : Term) → slice_get f 0 ≡ Some x → lead f ≡ x.exponents
-lead_read [] x e = absurd (cc)
-lead_read (y ∷ f) x e = let s : y ≡ x = cc in ap (λ (z : Term). z.exponents) s
 
 pub same_fault : {T : Type 0} (r : Result T PolyFault) (s e : PolyFault) → IsErrAnd r (λ k. k ≡ s) → IsErrOf r e → s ≡ e
 same_fault (Ok x) s e h k = absurd (cc)
@@ -35,14 +27,16 @@ same_fault (Err y) s e h k = cc
 pub one_is : (ring : Ring) → IsRing ring → 1 % ring.modulus ≡ 1
 one_is ring r = mod-eq_of_lt (modulus_field ring.modulus r.modulus).two
 
-pub opposite_is : (ring : Ring) (one opposite : ℕ) → IsRing ring → one ≡ 1 % ring.modulus → opposite ≡ (ring.modulus - one) % ring.modulus → opposite ≡ ring.modulus - 1
+pub opposite_is : (ring : Ring) (one opposite : ℕ) → IsRing ring → one ≡ 1 % ring.modulus
+    → opposite ≡ (ring.modulus - one) % ring.modulus → opposite ≡ ring.modulus - 1
 opposite_is ring one opposite r e f =
     let two : 1 < ring.modulus = (modulus_field ring.modulus r.modulus).two in
     let o : one ≡ 1 = e ∙ one_is ring r in
     let l : ring.modulus - 1 < ring.modulus = omega arith in
     f ∙ (ap (λ n. (ring.modulus - n) % ring.modulus) o ∙ mod-eq_of_lt l)
 
-module _ (ring : Ring) (r : IsRing ring) (f g : List Term) (cf : IsCanonical ring f) (cg : IsCanonical ring g) (a b : List ℕ) (la : lead f ≡ a) (lb : lead g ≡ b) (pa : length a ≡ places ring) (pb : length b ≡ places ring) where
+module _ (ring : Ring) (r : IsRing ring) (f g : List Term) (cf : IsCanonical ring f) (cg : IsCanonical ring g) (a b : List ℕ)
+    (la : leading_monomial f ≡ a) (lb : leading_monomial g ≡ b) (pa : length a ≡ places ring) (pb : length b ≡ places ring) where
   pos : 0 < ring.modulus
   pos = ring_positive ring r
 
@@ -63,22 +57,26 @@ module _ (ring : Ring) (r : IsRing ring) (f g : List Term) (cf : IsCanonical rin
 
   -- the first subtraction gives a multiple of f, the second the difference
   pub difference_is : (first difference : List Term) (opposite one : ℕ) → opposite ≡ ring.modulus - 1 → one ≡ 1
-      → first ≡ canonical ring ([] ++ multiple (ring.modulus - opposite) t f) → difference ≡ canonical ring (first ++ multiple (ring.modulus - one) s g) → difference ≡ canonical ring (s_terms ring f g)
+      → first ≡ canonical ring ([] ++ multiple (ring.modulus - opposite) t f)
+      → difference ≡ canonical ring (first ++ multiple (ring.modulus - one) s g) → difference ≡ canonical ring (s_terms ring f g)
   difference_is first difference opposite one eo e1 ef ed =
       let m : List Term = multiple 1 t f in
       let n : List Term = multiple (ring.modulus - 1) s g in
       let back : ring.modulus - opposite ≡ 1 = omega (arith, eo, two) in
       let a1 : first ≡ canonical ring m = ef ∙ ap (λ k. canonical ring (multiple k t f)) back in
       let om : IsOfRing ring m = multiple_of_ring ring 1 t f (quotient_length (lcm a b) a (places ring) long pa) (canonical_of_ring ring f cf) in
-      let on : IsOfRing ring n = multiple_of_ring ring (ring.modulus - 1) s g (quotient_length (lcm a b) b (places ring) long pb) (canonical_of_ring ring g cg) in
+      let on : IsOfRing ring n =
+      multiple_of_ring ring (ring.modulus - 1) s g (quotient_length (lcm a b) b (places ring) long pb) (canonical_of_ring ring g cg) in
       let oc : IsOfRing ring (canonical ring m) = canonical_of_ring ring (canonical ring m) (is_canonical ring m pos om) in
       let a2 : difference ≡ canonical ring (canonical ring m ++ n) = ed ∙ rw (a1, e1) refl in
       let a3 : canonical ring (canonical ring m ++ n) ≡ canonical ring (m ++ n) =
-      canonical_same ring (canonical ring m ++ n) (m ++ n) pos (append_of_ring ring (canonical ring m) n oc on) (append_of_ring ring m n om on) (alike_append (canonical_alike ring m pos om) (alike_same ring.modulus n)) in
+      canonical_same ring (canonical ring m ++ n) (m ++ n) pos (append_of_ring ring (canonical ring m) n oc on)
+      (append_of_ring ring m n om on) (alike_append (canonical_alike ring m pos om) (alike_same ring.modulus n)) in
       a2 ∙ (a3 ∙ ap (λ h. canonical ring h) (sym terms_are))
 
   pub both_low : (opposite one : ℕ) → HasLowDegrees (multiple opposite t f) → HasLowDegrees (multiple one s g) → HasLowDegrees (s_terms ring f g)
-  both_low opposite one h k = rw terms_are (append_low (multiple 1 t f) (multiple (ring.modulus - 1) s g) (low_any opposite 1 t f h) (low_any one (ring.modulus - 1) s g k))
+  both_low opposite one h k =
+      rw terms_are (append_low (multiple 1 t f) (multiple (ring.modulus - 1) s g) (low_any opposite 1 t f h) (low_any one (ring.modulus - 1) s g k))
 
   pub first_high : (opposite : ℕ) → (HasLowDegrees (multiple opposite t f) → ⊥) → HasLowDegrees (s_terms ring f g) → ⊥
   first_high opposite n h = n (low_any 1 opposite t f (low_front (multiple 1 t f) (multiple (ring.modulus - 1) s g) (rw terms_are at h)))

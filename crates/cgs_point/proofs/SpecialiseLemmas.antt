@@ -18,20 +18,20 @@ specialised_low : (ring : Ring) (a : List ℕ) (f : List Term) → HasLowDegrees
 specialised_low ring a [] h = tt
 specialised_low ring a (x ∷ f) h = (omega (arith, sum_by-take-le (λ n. n) x.exponents ring.variables, h.0), specialised_low ring a f h.1)
 
-specialised_poly_of : (ring : Ring) (a : List ℕ) (f : List Term) → 0 < ring.modulus → IsOfRing ring f → HasLowDegrees f → IsPoly (variables_ring ring) (specialised ring a f)
-specialised_poly_of ring a f pos h l = canonical_poly (variables_ring ring) (specialised_terms ring a f) pos (specialised_of_ring ring a f h) (specialised_low ring a f l)
+specialised_poly_of : (ring : Ring) (a : List ℕ) (f : List Term) → 0 < ring.modulus → IsOfRing ring f
+    → HasLowDegrees f → IsPoly (variables_ring ring) (specialised ring a f)
+specialised_poly_of ring a f pos h l =
+    canonical_poly (variables_ring ring) (specialised_terms ring a f) pos (specialised_of_ring ring a f h) (specialised_low ring a f l)
 
--- what a polynomial becomes is one
-pub specialised_poly : (ring : Ring) (a : List ℕ) (f : List Term) → IsRing ring → IsPoly ring f → IsPoly (variables_ring ring) (specialised ring a f)
-specialised_poly ring a f r h = specialised_poly_of ring a f (ring_positive ring r) (canonical_of_ring ring f h.canonical) h.low
-
-pub part_poly : (ring : Ring) (a : List ℕ) (f : List Term) (from n : ℕ) → IsRing ring → IsPoly ring f → IsPoly (variables_ring ring) (specialised ring a (take n (drop from f)))
+pub part_poly : (ring : Ring) (a : List ℕ) (f : List Term) (from n : ℕ) → IsRing ring → IsPoly ring f
+    → IsPoly (variables_ring ring) (specialised ring a (take n (drop from f)))
 part_poly ring a f from n r h =
     specialised_poly_of ring a (take n (drop from f)) (ring_positive ring r)
     (of_ring_take ring n (drop from f) (of_ring_drop ring from f (canonical_of_ring ring f h.canonical))) (low_take n (drop from f) (low_drop from f h.low))
 
 -- both halves together
-pub specialised_halves : (ring : Ring) (a : List ℕ) (f : List Term) (from half to : ℕ) (first second : List Term) → IsRing ring → IsPoly ring f → from ≤ half → half ≤ to
+pub specialised_halves : (ring : Ring) (a : List ℕ) (f : List Term) (from half to : ℕ) (first second : List Term)
+    → IsRing ring → IsPoly ring f → from ≤ half → half ≤ to
     → first ≡ specialised ring a (take (half - from) (drop from f)) → second ≡ specialised ring a (take (to - half) (drop half f))
     → canonical (variables_ring ring) (first ++ second) ≡ specialised ring a (take (to - from) (drop from f))
 specialised_halves ring a f from half to first second r h l k p q =
@@ -46,7 +46,8 @@ specialised_halves ring a f from half to first second r h l k p q =
 
 -- one term
 
-pub specialised_none : (ring : Ring) (a : List ℕ) (f : List Term) (i value : ℕ) → value ≡ value_at ring a (take 1 (drop i f)) → value ≡ 0 → specialised ring a (take 1 (drop i f)) ≡ []
+pub specialised_none : (ring : Ring) (a : List ℕ) (f : List Term) (i value : ℕ)
+    → value ≡ value_at ring a (take 1 (drop i f)) → value ≡ 0 → specialised ring a (take 1 (drop i f)) ≡ []
 specialised_none ring a f i value v z = by_list (drop i f) (sym v ∙ z)
   where
     by_list : (g : List Term) → value_at ring a (take 1 g) ≡ 0 → specialised ring a (take 1 g) ≡ []

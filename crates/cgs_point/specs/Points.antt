@@ -4,8 +4,8 @@ use Rattle.std.specs.List.{AllByRecursion}
 use Rattle.cgs_poly.specs.declared.ring.Ring.{Ring}
 
 -- each number reduced by the modulus
-abbrev pub reduced : ℕ → List ℕ → List ℕ
-reduced p values = map (λ n. n % p) values
+abbrev pub reduced_modulo : ℕ → List ℕ → List ℕ
+reduced_modulo p values = map (λ n. n % p) values
 
 -- one number below the modulus for each parameter
 pub record IsPoint (ring : Ring) (point : List ℕ) : Type 0 where

@@ -1,9 +1,8 @@
 //! A point: one number of the prime field for each parameter.
 
-ghost use Rattle.std.specs.Prelude.{◌≡◌, ◌≢◌, ◌↔◌, ◌<◌, length, IfOk, Err};
-ghost use Rattle.std.specs.List.{AllByRecursion};
+ghost use Rattle.std.specs.Prelude.{◌≡◌, ◌≢◌, ◌↔◌, length, IfOk, Err};
 ghost use Rattle.cgs_poly.specs.Polynomial.{IsRing};
-ghost use Rattle.cgs_point.specs.Points.{reduced, IsPoint};
+ghost use Rattle.cgs_point.specs.Points.{reduced_modulo, IsPoint};
 
 use cgs_field::Elem;
 use cgs_list::ItemList;
@@ -45,7 +44,7 @@ impl Point {
     /// fewer, before memory is taken.
     pub fn new(alloc: Global, ring: &Ring, values: &[u64]) -> Result<Point, PointFault>
         requires { IsRing ring.now }
-        ensures reduced { IfOk result (λ point. point ≡ reduced ring.now.modulus values.now) }
+        ensures reduced { IfOk result (λ point. point ≡ reduced_modulo ring.now.modulus values.now) }
         ensures point { IfOk result (IsPoint ring.now) }
         ensures count { result ≡ Err PointFault.Count ↔ (length values.now ≢ ring.now.parameters) }
     {

@@ -8,7 +8,8 @@ use Rattle.cgs_poly.specs.Draft.{IsFlat, Appended, HaveLength}
 use Rattle.cgs_poly.proofs.FlatLemmas.{terms_append, terms_take, terms_drop, take_flat, drop_flat, count_of}
 
 -- further coefficients with their exponents
-pub appended : (a b : Draft) (ds ns : List ℕ) → IsFlat a → length ns ≡ length ds * a.places → b.places ≡ a.places → b.coefficients.items ≡ a.coefficients.items ++ ds → b.exponents.items ≡ a.exponents.items ++ ns → Appended a b (terms_of a.places ds ns)
+pub appended : (a b : Draft) (ds ns : List ℕ) → IsFlat a → length ns ≡ length ds * a.places → b.places ≡ a.places
+    → b.coefficients.items ≡ a.coefficients.items ++ ds → b.exponents.items ≡ a.exponents.items ++ ns → Appended a b (terms_of a.places ds ns)
 appended a b ds ns h k p cs es =
     record {
       flat = rw (cs, es, p, length-append a.coefficients.items ds, length-append a.exponents.items ns) (omega arith);
@@ -16,7 +17,8 @@ appended a b ds ns h k p cs es =
       terms = rw (cs, es, p) (terms_append a.places a.coefficients.items ds a.exponents.items ns h);
     }
 
-pub pushed : (a b : Draft) (c : ℕ) (m : List ℕ) → IsFlat a → length m ≡ a.places → b.places ≡ a.places → b.coefficients.items ≡ a.coefficients.items ++ c ∷ [] → b.exponents.items ≡ a.exponents.items ++ m → Appended a b (term c m ∷ [])
+pub pushed : (a b : Draft) (c : ℕ) (m : List ℕ) → IsFlat a → length m ≡ a.places → b.places ≡ a.places
+    → b.coefficients.items ≡ a.coefficients.items ++ c ∷ [] → b.exponents.items ≡ a.exponents.items ++ m → Appended a b (term c m ∷ [])
 pushed a b c m h k p cs es =
     let t : take a.places m ≡ m = take_all a.places m (omega arith) in
     subst (λ n. Appended a b (term c n ∷ [])) t (appended a b (c ∷ []) m h (omega arith) p cs es)
@@ -26,8 +28,10 @@ places_same : (p q : ℕ) (cs es : List ℕ) → length es ≡ length cs * q →
 places_same p q [] es h k = inl refl
 places_same p q (c ∷ cs) es h k = inr (omega (arith, length-take q es, k.0))
 
-pub extended : (a b : Draft) (q from to : ℕ) (cs es : List ℕ) (f : List Term) → IsFlat a → terms_of q cs es ≡ f → length es ≡ length cs * q → HaveLength a.places f → from ≤ to → to ≤ length f → b.places ≡ a.places
-    → b.coefficients.items ≡ a.coefficients.items ++ take (to - from) (drop from cs) → b.exponents.items ≡ a.exponents.items ++ take ((to - from) * q) (drop (from * q) es) → Appended a b (take (to - from) (drop from f))
+pub extended : (a b : Draft) (q from to : ℕ) (cs es : List ℕ) (f : List Term) → IsFlat a → terms_of q cs es ≡ f
+    → length es ≡ length cs * q → HaveLength a.places f → from ≤ to → to ≤ length f → b.places ≡ a.places
+    → b.coefficients.items ≡ a.coefficients.items ++ take (to - from) (drop from cs)
+    → b.exponents.items ≡ a.exponents.items ++ take ((to - from) * q) (drop (from * q) es) → Appended a b (take (to - from) (drop from f))
 extended a b q from to cs es f h v k l r w p x y =
     elim (places_same a.places q cs es k (subst (λ g. HaveLength a.places g) (sym v) l)) [ inl e ↦ nothing e | inr e ↦ some e ]
   where
@@ -38,8 +42,10 @@ extended a b q from to cs es f h v k l r w p x y =
         let ns : List ℕ = take ((to - from) * q) (drop (from * q) es) in
         let s : length ns ≡ length ds * q = take_flat q (to - from) (drop from cs) (drop (from * q) es) (drop_flat q from cs es k) in
         let t : terms_of q ds ns ≡ take (to - from) (drop from f) =
-        terms_take q (to - from) (drop from cs) (drop (from * q) es) (drop_flat q from cs es k) ∙ ap (λ g. take (to - from) g) (terms_drop q from cs es ∙ ap (λ g. drop from g) v) in
-        subst (λ g. Appended a b g) t (subst (λ m. Appended a b (terms_of m ds ns)) (sym e) (appended a b ds ns h (subst (λ m. length ns ≡ length ds * m) e s) p x y))
+        terms_take q (to - from) (drop from cs) (drop (from * q) es) (drop_flat q from cs es k)
+        ∙ ap (λ g. take (to - from) g) (terms_drop q from cs es ∙ ap (λ g. drop from g) v) in
+        subst (λ g. Appended a b g) t
+        (subst (λ m. Appended a b (terms_of m ds ns)) (sym e) (appended a b ds ns h (subst (λ m. length ns ≡ length ds * m) e s) p x y))
 
     nothing : cs ≡ [] → Appended a b (take (to - from) (drop from f))
     nothing e =
@@ -50,8 +56,10 @@ extended a b q from to cs es f h v k l r w p x y =
         let none : ds ≡ [] = nil_from_length ds (omega (arith, length-take (to - from) (drop from cs), length-drop from cs)) in
         let o : length es ≡ 0 = omega (arith, rw z at k) in
         let empty : ns ≡ [] = nil_from_length ns (omega (arith, length-take ((to - from) * q) (drop (from * q) es), length-drop (from * q) es)) in
-        let g : take (to - from) (drop from f) ≡ [] = nil_from_length (take (to - from) (drop from f)) (omega (arith, length-take (to - from) (drop from f), length-drop from f)) in
-        subst (λ g. Appended a b g) (sym g) (appended a b [] [] h (omega arith) p (x ∙ ap (λ l. a.coefficients.items ++ l) none) (y ∙ ap (λ l. a.exponents.items ++ l) empty))
+        let g : take (to - from) (drop from f) ≡ [] =
+        nil_from_length (take (to - from) (drop from f)) (omega (arith, length-take (to - from) (drop from f), length-drop from f)) in
+        subst (λ g. Appended a b g) (sym g)
+        (appended a b [] [] h (omega arith) p (x ∙ ap (λ l. a.coefficients.items ++ l) none) (y ∙ ap (λ l. a.exponents.items ++ l) empty))
 
 -- flat lists with as many exponents a term as a further monomial has
 pub record FlatFor (p : ℕ) (cs es : List ℕ) (f : List Term) : Type 0 where

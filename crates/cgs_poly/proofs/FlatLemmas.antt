@@ -1,6 +1,7 @@
 -- Terms kept in two flat lists: appended lists, a front, what is behind it, one place, and when two are the same.
 use Rattle.std.proofs.Common.{ℕ, zero, suc, ◌≡◌, ◌+◌, ◌-◌, ◌*◌, ◌<◌, ◌≤◌, List, [], ◌∷◌, ◌++◌, length, take, drop, get_or, Some, refl, sym, ap, ◌∙◌, arith}
-use Rattle.std.proofs.lemmas.List.{length-take, length-drop, take-append-drop, drop-drop, take-append-le, drop-append-le, drop-take, take-take, get_or_read, nil_from_length}
+use Rattle.std.proofs.lemmas.List.{length-take, length-drop, take-append-drop, drop-drop, take-append-le, drop-append-le, drop-take, take-take, get_or_read}
+use Rattle.std.proofs.lemmas.List.{nil_from_length}
 use Rattle.std.proofs.Math.Nat.{mul-le-mul_right, le_of_mul-le-mul_left, le_antisymm}
 use Rattle.std.specs.Prelude.{slice_get}
 use Rattle.cgs_poly.specs.Polynomial.{Term, term}
@@ -62,7 +63,8 @@ part_fits p i cs es f v h l =
     let k : i ≤ length cs = omega arith in
     omega (arith, mul-le-mul_right p k, h)
 
-pub term_read : (p i c : ℕ) (cs es m : List ℕ) (f : List Term) → terms_of p cs es ≡ f → i < length f → c ≡ get_or cs i c → m ≡ take ((i + 1 - i) * p) (drop (i * p) es) → slice_get f i ≡ Some (term c m)
+pub term_read : (p i c : ℕ) (cs es m : List ℕ) (f : List Term) → terms_of p cs es ≡ f → i < length f → c ≡ get_or cs i c
+    → m ≡ take ((i + 1 - i) * p) (drop (i * p) es) → slice_get f i ≡ Some (term c m)
 term_read p i c cs es m f v l r q =
     let k = count_of p cs es f v in
     let lt : i < length cs = omega arith in
@@ -95,16 +97,19 @@ take_flat p (suc i) (c ∷ cs) es h =
 -- flat lists are the same exactly where their terms are
 
 same_places : (n p q : ℕ) → suc n * p ≡ suc n * q → p ≡ q
-same_places n p q e = le_antisymm (le_of_mul-le-mul_left {k = suc n} (omega arith) (omega arith)) (le_of_mul-le-mul_left {k = suc n} (omega arith) (omega arith))
+same_places n p q e =
+    le_antisymm (le_of_mul-le-mul_left {k = suc n} (omega arith) (omega arith)) (le_of_mul-le-mul_left {k = suc n} (omega arith) (omega arith))
 
-pub flat_same : (p q : ℕ) (cs es ds ns : List ℕ) → length es ≡ length cs * p → length ns ≡ length ds * q → cs ≡ ds → es ≡ ns → terms_of p cs es ≡ terms_of q ds ns
+pub flat_same : (p q : ℕ) (cs es ds ns : List ℕ) → length es ≡ length cs * p
+    → length ns ≡ length ds * q → cs ≡ ds → es ≡ ns → terms_of p cs es ≡ terms_of q ds ns
 flat_same p q [] es ds ns h k s t = rw (← s) refl
 flat_same p q (c ∷ cs) es ds ns h k s t =
     let a : suc (length cs) * p ≡ suc (length cs) * q = sym h ∙ (ap length t ∙ (k ∙ ap (λ l. length l * q) (sym s))) in
     let e : p ≡ q = same_places (length cs) p q a in
     rw (← s, ← t) (ap (λ n. terms_of n (c ∷ cs) es) e)
 
-pub flat_parts : (p q : ℕ) (cs es ds ns : List ℕ) → length es ≡ length cs * p → length ns ≡ length ds * q → terms_of p cs es ≡ terms_of q ds ns → (cs ≡ ds) × (es ≡ ns)
+pub flat_parts : (p q : ℕ) (cs es ds ns : List ℕ) → length es ≡ length cs * p → length ns ≡ length ds * q
+    → terms_of p cs es ≡ terms_of q ds ns → (cs ≡ ds) × (es ≡ ns)
 flat_parts p q [] es [] ns h k e =
     let a : es ≡ [] = nil_from_length es (omega arith) in
     let b : ns ≡ [] = nil_from_length ns (omega arith) in

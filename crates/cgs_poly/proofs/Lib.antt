@@ -16,3 +16,4 @@ pub mod RecastLemmas
 pub mod MonicLemmas
 pub mod SameLemmas
 pub mod OneLemmas
+pub mod TermLemmas

@@ -22,7 +22,8 @@ one_poly ring r = record {
 
 -- its monomial, as the code has it
 pub zero_places : (ring : Ring) (n : ℕ) → IsRing ring → n ≡ places ring → take n (replicate {A = ℕ} 17 0) ≡ replicate (places ring) 0
-zero_places ring n r e = ap (λ k. take k (replicate {A = ℕ} 17 0)) e ∙ take-replicate (places ring) 17 0 (let v = r.variables in let p = r.parameters in omega arith)
+zero_places ring n r e =
+    ap (λ k. take k (replicate {A = ℕ} 17 0)) e ∙ take-replicate (places ring) 17 0 (let v = r.variables in let p = r.parameters in omega arith)
 
 -- its term, as the code has it
 pub one_is : (ring : Ring) (c n : ℕ) → IsRing ring → c ≡ 1 % ring.modulus → n ≡ places ring → term c (take n (replicate {A = ℕ} 17 0)) ∷ [] ≡ one ring

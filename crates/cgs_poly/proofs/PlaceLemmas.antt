@@ -1,10 +1,12 @@
 -- The term at a place of a list: what is behind it, and what holds of it.
-use Rattle.std.proofs.Common.{ℕ, zero, suc, ◌≡◌, ◌+◌, ◌-◌, ◌<◌, ◌≤◌, max, Bool, true, false, Option, Some, None, cond, List, [], ◌∷◌, length, take, drop, refl, sym, ap, subst, arith, add-one}
+use Rattle.std.proofs.Common.{ℕ, zero, suc, ◌≡◌, ◌+◌, ◌-◌, ◌<◌, ◌≤◌, max, Bool, true, false, Option, Some, None, cond, List, [], ◌∷◌, length, take, drop, refl}
+use Rattle.std.proofs.Common.{sym, ap, subst, arith, add-one}
 use Rattle.std.specs.Prelude.{slice_get, IfSome}
 use Rattle.std.specs.declared.cmp.Ordering.{Ordering}
 use Rattle.std.specs.declared.cmp.Ordering.TheVariants.{Less, Equal, Greater}
 use Rattle.std.specs.Ordering.{nat_cmp, is_eq}
 use Rattle.std.specs.Cmp.Lexicographic.{slice_cmp}
+use Rattle.cgs_list.proofs.ListLemmas.{drop_at}
 use Rattle.cgs_order.specs.declared.block.BlockOrder.{BlockOrder}
 use Rattle.cgs_order.specs.TermOrder.{compared}
 use Rattle.cgs_order.proofs.OrderLemmas.{cmp_self, cmp_equal}
@@ -17,16 +19,6 @@ use Rattle.cgs_poly.specs.Merge.{AreAbove, StartsNotAbove, first_at, changed, Ea
 
 some_same : (x y : Term) → ◌≡◌ {A = Option Term} (Some x) (Some y) → x ≡ y
 some_same x y e = cc
-
-pub drop_get : (f : List Term) (i : ℕ) (x : Term) → slice_get f i ≡ Some x → drop i f ≡ x ∷ drop (i + 1) f
-drop_get [] i x e = absurd (cc)
-drop_get (y ∷ f) zero x e = let s : y ≡ x = some_same y x e in rw s refl
-drop_get (y ∷ f) (suc i) x e = rw (add-one) (rw (add-one) at (drop_get f i x e))
-
-pub get_below : (f : List Term) (i : ℕ) (x : Term) → slice_get f i ≡ Some x → i < length f
-get_below [] i x e = absurd (cc)
-get_below (y ∷ f) zero x e = omega arith
-get_below (y ∷ f) (suc i) x e = omega (arith, get_below f i x e)
 
 pub length_at : (p i : ℕ) (f : List Term) (x : Term) → HaveLength p f → slice_get f i ≡ Some x → length x.exponents ≡ p
 length_at p i [] x h e = absurd (cc)
@@ -62,7 +54,8 @@ canonical_length ring (x ∷ f) h = (h.2, canonical_length ring f h.4)
 
 -- a front that is above m
 
-pub above_more : (order : BlockOrder) (m : List ℕ) (from i : ℕ) (f : List Term) (x : Term) → from ≤ i → slice_get f i ≡ Some x → compared order x.exponents m ≡ Greater → AreAbove order m (take (i - from) (drop from f)) → AreAbove order m (take (i + 1 - from) (drop from f))
+pub above_more : (order : BlockOrder) (m : List ℕ) (from i : ℕ) (f : List Term) (x : Term) → from ≤ i → slice_get f i ≡ Some x
+    → compared order x.exponents m ≡ Greater → AreAbove order m (take (i - from) (drop from f)) → AreAbove order m (take (i + 1 - from) (drop from f))
 above_more order m zero i f x l e g h = rw (plain (i + 1), add-one) (front i f e (rw (plain i) at h))
   where
     plain : (n : ℕ) → n - 0 ≡ n
@@ -79,16 +72,18 @@ above_more order m (suc from) (suc i) (y ∷ f) x l e g h =
     let t : suc i + 1 - suc from ≡ i + 1 - from = omega arith in
     rw t (above_more order m from i f x (omega arith) e g (rw s at h))
 
-pub stops_at : (order : BlockOrder) (m : List ℕ) (i : ℕ) (f : List Term) (x : Term) → slice_get f i ≡ Some x → (compared order x.exponents m ≡ Greater → ⊥) → StartsNotAbove order m (drop i f)
-stops_at order m i f x e n = rw (drop_get f i x e) n
+pub stops_at : (order : BlockOrder) (m : List ℕ) (i : ℕ) (f : List Term) (x : Term) → slice_get f i ≡ Some x
+    → (compared order x.exponents m ≡ Greater → ⊥) → StartsNotAbove order m (drop i f)
+stops_at order m i f x e n = rw (drop_at f i x e) n
 
 -- the first coefficient
 
 pub first_found : (m : List ℕ) (i c : ℕ) (f : List Term) (n : List ℕ) → slice_get f i ≡ Some (term c n) → n ≡ m → Some c ≡ first_at m (drop i f)
-first_found m i c f n e s = rw (drop_get f i (term c n) e, s, cmp_self m) refl
+first_found m i c f n e s = rw (drop_at f i (term c n) e, s, cmp_self m) refl
 
-pub first_other : (m : List ℕ) (i c : ℕ) (f : List Term) (n : List ℕ) → slice_get f i ≡ Some (term c n) → (n ≡ m → ⊥) → ◌≡◌ {A = Option ℕ} None (first_at m (drop i f))
-first_other m i c f n e d = rw (drop_get f i (term c n) e) (step (slice_cmp nat_cmp n m) refl)
+pub first_other : (m : List ℕ) (i c : ℕ) (f : List Term) (n : List ℕ) → slice_get f i ≡ Some (term c n)
+    → (n ≡ m → ⊥) → ◌≡◌ {A = Option ℕ} None (first_at m (drop i f))
+first_other m i c f n e d = rw (drop_at f i (term c n) e) (step (slice_cmp nat_cmp n m) refl)
   where
     step : (o : Ordering) → slice_cmp nat_cmp n m ≡ o → ◌≡◌ {A = Option ℕ} None (cond (is_eq o) (Some c) None)
     step Less q = refl
@@ -105,12 +100,14 @@ met_below ring m (x ∷ f) h = step (is_eq (slice_cmp nat_cmp x.exponents m))
 
 -- changed terms
 
-pub changed_get : (a : ℕ → ℕ) (b : List ℕ → List ℕ) (g : List Term) (j : ℕ) (x : Term) → slice_get g j ≡ Some x → slice_get (changed a b g) j ≡ Some (term (a x.coefficient) (b x.exponents))
+pub changed_get : (a : ℕ → ℕ) (b : List ℕ → List ℕ) (g : List Term) (j : ℕ) (x : Term) → slice_get g j ≡ Some x
+    → slice_get (changed a b g) j ≡ Some (term (a x.coefficient) (b x.exponents))
 changed_get a b [] j x e = absurd (cc)
 changed_get a b (y ∷ g) zero x e = ap (λ (z : Term). Some (term (a z.coefficient) (b z.exponents))) (some_same y x e)
 changed_get a b (y ∷ g) (suc j) x e = changed_get a b g j x e
 
-pub changed_at : (a : ℕ → ℕ) (b : List ℕ → List ℕ) (g : List Term) (j : ℕ) (x : Term) (c : ℕ) (m : List ℕ) → slice_get g j ≡ Some x → c ≡ a x.coefficient → m ≡ b x.exponents → slice_get (changed a b g) j ≡ Some (term c m)
+pub changed_at : (a : ℕ → ℕ) (b : List ℕ → List ℕ) (g : List Term) (j : ℕ) (x : Term) (c : ℕ) (m : List ℕ) → slice_get g j ≡ Some x
+    → c ≡ a x.coefficient → m ≡ b x.exponents → slice_get (changed a b g) j ≡ Some (term c m)
 changed_at a b g j x c m e p q = rw (p, q) (changed_get a b g j x e)
 
 pub changed_length : (a : ℕ → ℕ) (b : List ℕ → List ℕ) (g : List Term) → length (changed a b g) ≡ length g
@@ -146,4 +143,4 @@ top_at (y ∷ f) zero x e = let s : y ≡ x = some_same y x e in rw (← s) (ome
 top_at (y ∷ f) (suc i) x e = omega (arith, top_at f i x e)
 
 pub take_one : (f : List Term) (i n : ℕ) (x : Term) → slice_get f i ≡ Some x → n ≡ 1 → take n (drop i f) ≡ x ∷ []
-take_one f i n x e q = rw (q, drop_get f i x e) refl
+take_one f i n x e q = rw (q, drop_at f i x e) refl

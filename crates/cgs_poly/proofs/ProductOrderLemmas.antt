@@ -1,6 +1,6 @@
 -- The order of monomials and their products: multiplying both sides keeps the order, and no multiple is below.
 use Rattle.std.proofs.Common.{ℕ, zero, suc, ◌≡◌, ◌+◌, List, [], ◌∷◌, ◌++◌, length, take, drop, replicate, refl, sym, ◌∙◌, arith}
-use Rattle.std.proofs.lemmas.List.{length-take, length-drop, length-reverse, length-replicate}
+use Rattle.std.proofs.lemmas.List.{length-reverse, length-replicate}
 use Rattle.std.proofs.lemmas.Bool.Decides.{nat_tests}
 use mathlib.Core.List.{reverse_aux}
 use Rattle.std.specs.Cmp.Lexicographic.{slice_cmp}
@@ -13,7 +13,7 @@ use Rattle.cgs_order.specs.declared.kind.Kind.{Kind}
 use Rattle.cgs_order.specs.declared.kind.Kind.TheVariants.{Lex, GrLex, GrevLex}
 use Rattle.cgs_order.specs.declared.block.BlockOrder.{BlockOrder}
 use Rattle.cgs_order.specs.TermOrder.{partial_sums, block_key, key, compared}
-use Rattle.cgs_order.proofs.OrderLemmas.{block_length, key_length}
+use Rattle.cgs_order.proofs.OrderLemmas.{block_length, key_length, parts_length}
 
 nat_cmp_shift : (t x y : ℕ) → nat_cmp (t + x) (t + y) ≡ nat_cmp x y
 nat_cmp_shift t x y = grind (arith, nat_tests)
@@ -29,7 +29,8 @@ cmp_shift (t ∷ ts) [] b p q = absurd (omega arith)
 cmp_shift (t ∷ ts) (x ∷ xs) [] p q = absurd (omega arith)
 cmp_shift (t ∷ ts) (x ∷ xs) (y ∷ ys) p q = cc (nat_cmp_shift t x y, cmp_shift ts xs ys (omega arith) (omega arith))
 
-cmp_grown_step : (t x : ℕ) (ts xs : List ℕ) (o : Ordering) → nat_cmp (t + x) x ≡ o → ordering_then o (slice_cmp nat_cmp (product ts xs) xs) ≡ Less → (slice_cmp nat_cmp (product ts xs) xs ≡ Less → ⊥) → ⊥
+cmp_grown_step : (t x : ℕ) (ts xs : List ℕ) (o : Ordering) → nat_cmp (t + x) x ≡ o
+    → ordering_then o (slice_cmp nat_cmp (product ts xs) xs) ≡ Less → (slice_cmp nat_cmp (product ts xs) xs ≡ Less → ⊥) → ⊥
 cmp_grown_step t x ts xs Less e k ih = nat_cmp_grown t x e
 cmp_grown_step t x ts xs Equal e k ih = ih k
 cmp_grown_step t x ts xs Greater e k ih = cc
@@ -79,11 +80,9 @@ block_product : (k : Kind) (a b : List ℕ) → length a ≡ length b → block_
 block_product Lex a b p = refl
 block_product GrLex a b p = cc (degree_product a b p)
 block_product GrevLex a b p =
-    let e : length (partial_sums 0 a) ≡ length (partial_sums 0 b) = omega (arith, block_length GrevLex a b p, length-reverse (partial_sums 0 a), length-reverse (partial_sums 0 b)) in
+    let e : length (partial_sums 0 a) ≡ length (partial_sums 0 b) =
+    omega (arith, block_length GrevLex a b p, length-reverse (partial_sums 0 a), length-reverse (partial_sums 0 b)) in
     rw (partial_sums_product 0 0 a b) (product_reverse (partial_sums 0 a) (partial_sums 0 b) [] [] e)
-
-parts_length : (n : ℕ) (a b : List ℕ) → length a ≡ length b → (length (take n a) ≡ length (take n b)) × (length (drop n a) ≡ length (drop n b))
-parts_length n a b p = (omega (arith, length-take n a, length-take n b), omega (arith, length-drop n a, length-drop n b))
 
 pub key_product : (order : BlockOrder) (a b : List ℕ) → length a ≡ length b → key order (product a b) ≡ product (key order a) (key order b)
 unfolding key
@@ -94,11 +93,13 @@ key_product order a b p =
     rw (take_product n a b) (block_product order.kind (take n a) (take n b) h.0) in
     let f : block_key order.kind (drop n (product a b)) ≡ product (block_key order.kind (drop n a)) (block_key order.kind (drop n b)) =
     rw (drop_product n a b) (block_product order.kind (drop n a) (drop n b) h.1) in
-    let g = product_append (block_key order.kind (take n a)) (block_key order.kind (drop n a)) (block_key order.kind (take n b)) (block_key order.kind (drop n b))
+    let g = product_append (block_key order.kind (take n a)) (block_key order.kind (drop n a))
+    (block_key order.kind (take n b)) (block_key order.kind (drop n b))
     (block_length order.kind (take n a) (take n b) h.0) in
     cc (e, f, g)
 
-pub compared_shift : (order : BlockOrder) (t a b : List ℕ) → length t ≡ length a → length t ≡ length b → compared order (product t a) (product t b) ≡ compared order a b
+pub compared_shift : (order : BlockOrder) (t a b : List ℕ) → length t ≡ length a → length t ≡ length b
+    → compared order (product t a) (product t b) ≡ compared order a b
 unfolding compared
 compared_shift order t a b p q =
     cc (key_product order t a p, key_product order t b q, cmp_shift (key order t) (key order a) (key order b) (key_length order t a p) (key_length order t b q))

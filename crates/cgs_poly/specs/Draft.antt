@@ -1,5 +1,6 @@
 -- Terms as they are put together in two flat lists.
-use Rattle.std.specs.Prelude.{ℕ, ◌≡◌, ◌*◌, List, [], ◌∷◌, ◌++◌, length}
+use Rattle.std.specs.Prelude.{ℕ, ◌≡◌, ◌*◌, List, ◌++◌, length}
+use Rattle.std.specs.List.{AllByRecursion}
 use Rattle.cgs_poly.specs.declared.draft.Draft.{Draft}
 use Rattle.cgs_poly.specs.Polynomial.{Term}
 use Rattle.cgs_poly.specs.Flat.{terms_of}
@@ -13,8 +14,7 @@ IsFlat draft = length draft.exponents.items ≡ length draft.coefficients.items 
 
 -- each monomial has so many exponents
 abbrev pub HaveLength : ℕ → List Term → Type 0
-HaveLength places [] = Unit {0}
-HaveLength places (x ∷ f) = (length x.exponents ≡ places) × HaveLength places f
+HaveLength places f = AllByRecursion (λ x. length x.exponents ≡ places) f
 
 -- the second draft is the first with f at its end
 pub record Appended (first second : Draft) (f : List Term) : Type 0 where

@@ -1,5 +1,6 @@
 -- One step of a merge of two sorted lists: what goes before, and what becomes of a term of the second list.
 use Rattle.std.specs.Prelude.{ℕ, ◌≡◌, ◌≤◌, ◌+◌, cond, Option, Some, None, List, [], ◌∷◌, length}
+use Rattle.std.specs.List.{AllByRecursion}
 use Rattle.std.specs.declared.cmp.Ordering.TheVariants.{Greater}
 use Rattle.std.specs.Ordering.{is_eq, nat_cmp}
 use Rattle.std.specs.Cmp.Lexicographic.{slice_cmp}
@@ -11,8 +12,7 @@ use Rattle.cgs_poly.specs.Polynomial.{Term, term, kept, greatest_degree}
 
 -- each monomial is above m
 abbrev pub AreAbove : BlockOrder → List ℕ → List Term → Type 0
-AreAbove order m [] = Unit {0}
-AreAbove order m (x ∷ f) = (compared order x.exponents m ≡ Greater) × AreAbove order m f
+AreAbove order m f = AllByRecursion (λ x. compared order x.exponents m ≡ Greater) f
 
 -- the first monomial is not above m
 abbrev pub StartsNotAbove : BlockOrder → List ℕ → List Term → Type 0
@@ -41,8 +41,7 @@ changed a b (x ∷ f) = term (a x.coefficient) (b x.exponents) ∷ changed a b f
 
 -- each term is so
 abbrev pub EachTerm : (ℕ → List ℕ → Type 0) → List Term → Type 0
-EachTerm P [] = Unit {0}
-EachTerm P (x ∷ f) = P x.coefficient x.exponents × EachTerm P f
+EachTerm P f = AllByRecursion (λ x. P x.coefficient x.exponents) f
 
 -- two monomials of as many places, with a product of a low degree
 pub record CanMultiply (m n : List ℕ) : Type 0 where

@@ -4,11 +4,11 @@ use Rattle.std.specs.Ordering.{nat_cmp, is_eq}
 use Rattle.std.specs.Cmp.Lexicographic.{slice_cmp}
 use Rattle.cgs_poly.specs.declared.ring.Ring.{Ring}
 use Rattle.cgs_poly.specs.Polynomial.{Term, term, total, canonical, IsPoly}
-use Rattle.cgs_poly.specs.Product.{lead}
+use Rattle.cgs_poly.specs.Product.{leading_monomial}
 
 -- the variables' exponents of the leading monomial
 abbrev pub lead_x : Ring → List Term → List ℕ
-lead_x ring f = take ring.variables (lead f)
+lead_x ring f = take ring.variables (leading_monomial f)
 
 -- the terms whose variables have the exponents x
 abbrev pub part_at : Ring → List ℕ → List Term → List Term
@@ -60,7 +60,8 @@ variables_ring ring = record { modulus = ring.modulus; variables = ring.variable
 -- each term with its parameters replaced by a point's numbers
 abbrev pub specialised_terms : Ring → List ℕ → List Term → List Term
 specialised_terms ring a [] = []
-specialised_terms ring a (y ∷ f) = term (y.coefficient * power_at (drop ring.variables y.exponents) a) (take ring.variables y.exponents) ∷ specialised_terms ring a f
+specialised_terms ring a (y ∷ f) =
+    term (y.coefficient * power_at (drop ring.variables y.exponents) a) (take ring.variables y.exponents) ∷ specialised_terms ring a f
 
 -- the polynomial in the variables alone that f becomes at a point
 abbrev pub specialised : Ring → List ℕ → List Term → List Term

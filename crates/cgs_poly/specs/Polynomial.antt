@@ -2,6 +2,7 @@
 -- Any list of terms stands for their sum. The polynomial itself is the one list for it that is canonical: coefficients 1 to p-1, and
 -- monomials that strictly fall.
 use Rattle.std.specs.Prelude.{ℕ, ◌≡◌, ◌+◌, ◌*◌, ◌%◌, ◌<◌, ◌≤◌, cond, ◌==◌, List, [], ◌∷◌, length, replicate}
+use Rattle.std.specs.List.{AllByRecursion}
 use Rattle.std.specs.declared.cmp.Ordering.TheVariants.{Less, Equal, Greater}
 use Rattle.std.specs.Ordering.{is_eq, nat_cmp}
 use Rattle.std.specs.Cmp.Lexicographic.{slice_cmp}
@@ -44,12 +45,12 @@ total w [] = 0
 total w (x ∷ f) = x.coefficient * w x.exponents + total w f
 
 -- 1 at m, and 0 at any other monomial
-abbrev pub only : List ℕ → List ℕ → ℕ
-only m n = cond (is_eq (slice_cmp nat_cmp m n)) 1 0
+abbrev pub indicator : List ℕ → List ℕ → ℕ
+indicator m n = cond (is_eq (slice_cmp nat_cmp m n)) 1 0
 
 -- what the terms at m add up to, modulo p
 abbrev pub coefficient : ℕ → List Term → List ℕ → ℕ
-coefficient p f m = total (only m) f % p
+coefficient p f m = total (indicator m) f % p
 
 -- two lists of terms have the same coefficient at each monomial, so they stand for one sum
 pub record SameCoefficients (p : ℕ) (f g : List Term) : Type 0 where
@@ -57,8 +58,7 @@ pub record SameCoefficients (p : ℕ) (f g : List Term) : Type 0 where
 
 -- each monomial is of the ring
 abbrev pub IsOfRing : Ring → List Term → Type 0
-IsOfRing ring [] = Unit {0}
-IsOfRing ring (x ∷ f) = (length x.exponents ≡ places ring) × IsOfRing ring f
+IsOfRing ring f = AllByRecursion (λ x. length x.exponents ≡ places ring) f
 
 -- the first monomial of f is below m
 abbrev pub StartsBelow : Ring → List ℕ → List Term → Type 0
@@ -68,7 +68,8 @@ StartsBelow ring m (x ∷ f) = compared (order_of ring) x.exponents m ≡ Less
 -- coefficients 1 to p-1, and monomials of the ring that strictly fall
 abbrev pub IsCanonical : Ring → List Term → Type 0
 IsCanonical ring [] = Unit {0}
-IsCanonical ring (x ∷ f) = (0 < x.coefficient) × (x.coefficient < ring.modulus) × (length x.exponents ≡ places ring) × StartsBelow ring x.exponents f × IsCanonical ring f
+IsCanonical ring (x ∷ f) =
+    (0 < x.coefficient) × (x.coefficient < ring.modulus) × (length x.exponents ≡ places ring) × StartsBelow ring x.exponents f × IsCanonical ring f
 
 -- the greatest degree of a monomial in a program's polynomial
 abbrev pub greatest_degree : ℕ
@@ -76,13 +77,22 @@ greatest_degree = 32767
 
 -- each monomial has a degree of at most that
 abbrev pub HasLowDegrees : List Term → Type 0
-HasLowDegrees [] = Unit {0}
-HasLowDegrees (x ∷ f) = (degree x.exponents ≤ greatest_degree) × HasLowDegrees f
+HasLowDegrees f = AllByRecursion (λ x. degree x.exponents ≤ greatest_degree) f
+
+-- a term that a sum in the ring may have
+pub record IsTerm (ring : Ring) (x : Term) : Type 0 where
+  pub below : x.coefficient < ring.modulus
+  pub places : length x.exponents ≡ places ring
+  pub low : degree x.exponents ≤ greatest_degree
 
 -- a polynomial of the ring, as a program keeps it
 pub record IsPoly (ring : Ring) (f : List Term) : Type 0 where
   pub canonical : IsCanonical ring f
   pub low : HasLowDegrees f
+
+-- each of them is a polynomial of the ring
+abbrev pub ArePolys : Ring → List (List Term) → Type 0
+ArePolys ring G = AllByRecursion (IsPoly ring) G
 
 -- the term c*m before f, unless c is 0 modulo p
 abbrev pub kept : Ring → ℕ → List ℕ → List Term → List Term
@@ -91,7 +101,9 @@ kept ring c m f = cond (c % ring.modulus == 0) f (term (c % ring.modulus) m ∷ 
 -- the canonical list f with the term c*m added
 abbrev pub inserted : Ring → ℕ → List ℕ → List Term → List Term
 inserted ring c m [] = kept ring c m []
-inserted ring c m (y ∷ f) = elim (compared (order_of ring) m y.exponents) [ Less ↦ y ∷ inserted ring c m f | Equal ↦ kept ring (c + y.coefficient) m f | Greater ↦ kept ring c m (y ∷ f) ]
+inserted ring c m (y ∷ f) =
+    elim (compared (order_of ring) m y.exponents)
+    [ Less ↦ y ∷ inserted ring c m f | Equal ↦ kept ring (c + y.coefficient) m f | Greater ↦ kept ring c m (y ∷ f) ]
 
 -- the canonical list of the sum of the terms
 abbrev pub canonical : Ring → List Term → List Term

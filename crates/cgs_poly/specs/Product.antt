@@ -19,14 +19,14 @@ all_products [] g = []
 all_products (x ∷ f) g = multiple x.coefficient x.exponents g ++ all_products f g
 
 -- the monomial of the first term
-abbrev pub lead : List Term → List ℕ
-lead [] = []
-lead (x ∷ f) = x.exponents
+abbrev pub leading_monomial : List Term → List ℕ
+leading_monomial [] = []
+leading_monomial (x ∷ f) = x.exponents
 
 -- the coefficient of the first term
-abbrev pub lead_coefficient : List Term → ℕ
-lead_coefficient [] = 0
-lead_coefficient (x ∷ f) = x.coefficient
+abbrev pub leading_coefficient : List Term → ℕ
+leading_coefficient [] = 0
+leading_coefficient (x ∷ f) = x.coefficient
 
 -- the greatest degree of a monomial
 abbrev pub top_degree : List Term → ℕ

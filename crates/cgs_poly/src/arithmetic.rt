@@ -2,7 +2,7 @@
 
 ghost use Rattle.std.specs.Prelude.{ℕ, List, [], ◌≡◌, ◌+◌, ◌-◌, ◌*◌, ◌++◌, ◌%◌, ◌<◌, ◌≤◌, ◌↔◌, length, take, drop, IsTrue, IfOk, OnOk, IsErrOf};
 ghost use Rattle.cgs_poly.specs.Polynomial.{IsRing, IsPoly, HasLowDegrees, places, canonical, coefficient, greatest_degree};
-ghost use Rattle.cgs_poly.specs.Product.{scaled, multiple, all_products, lead_coefficient, top_degree};
+ghost use Rattle.cgs_poly.specs.Product.{scaled, multiple, all_products, leading_coefficient, top_degree};
 ghost use Rattle.cgs_poly.specs.Monic.{monic_of};
 ghost use Rattle.cgs_poly.specs.Merge.{EachTerm};
 
@@ -51,8 +51,8 @@ impl Poly {
         requires poly { IsPoly ring.now f.now }
         ensures monic { IfOk result (λ h. h ≡ monic_of ring.now f.now) }
         ensures zero { IfOk result (λ h. f.now ≡ [] → h ≡ []) }
-        ensures lead { IfOk result (λ h. ¬ (f.now ≡ []) → lead_coefficient h ≡ 1) }
-        ensures multiple { IfOk result (λ h. f.now ≡ canonical ring.now (scaled (lead_coefficient f.now) h)) }
+        ensures lead { IfOk result (λ h. ¬ (f.now ≡ []) → leading_coefficient h ≡ 1) }
+        ensures multiple { IfOk result (λ h. f.now ≡ canonical ring.now (scaled (leading_coefficient f.now) h)) }
         ensures poly { IfOk result (λ h. IsPoly ring.now h) }
     {
         let Some(lead) = f.lead() else {

@@ -18,15 +18,17 @@ mod parameters;
 mod poly;
 mod recast;
 mod ring;
+mod sum;
 
 pub use fault::PolyFault;
 pub use laws::{
     coefficients_decide, one_is_least, product_keeps_order, specialising_is_homomorphism,
     value_is_homomorphism,
 };
-pub use list::{are_same, copied, is_among, joined};
+pub use list::{are_same, is_among, joined};
 pub use poly::{Poly, PolyList, Term};
 pub use ring::Ring;
+pub use sum::TermList;
 
 #[cfg(test)]
 mod tests;

@@ -6,28 +6,12 @@ ghost use Rattle.cgs_poly.specs.Same.{is_among};
 use crate::poly::{Poly, PolyList};
 use std::alloc::{AllocError, Global};
 
-/// Copies of all polynomials of a list.
-pub fn copied(alloc: Global, list: &PolyList) -> Result<PolyList, AllocError>
-    ensures { IfOk result (λ copy. copy ≡ list.now) }
-{
-    let mut copy = PolyList::new(alloc);
-    for i in 0..list.len() {
-        let poly = list.get(i).copy()?;
-        copy.push(poly)?;
-    }
-    Ok(copy)
-}
-
 /// Copies of all polynomials of two lists, one list after the other.
 pub fn joined(alloc: Global, list: &PolyList, more: &PolyList) -> Result<PolyList, AllocError>
     ensures { IfOk result (λ whole. whole ≡ list.now ++ more.now) }
 {
-    let mut whole = copied(alloc, list)?;
-    for i in 0..more.len() {
-        let poly = more.get(i).copy()?;
-        whole.push(poly)?;
-    }
-    Ok(whole)
+    let first = PolyList::new(alloc).extended(list.as_slice())?;
+    first.extended(more.as_slice())
 }
 
 /// Whether two lists are equal.

@@ -1,7 +1,7 @@
 //! The sum of two polynomials, of which the second is multiplied on the way: one pass over both lists of terms.
 
 ghost use Rattle.std.specs.Prelude.{◌≡◌, ◌<◌, ◌≤◌, ◌+◌, ◌^◌, ◌-◌, ◌++◌, length, take, drop, IfOk};
-ghost use Rattle.cgs_poly.specs.Polynomial.{IsRing, IsOfRing, IsCanonical, canonical};
+ghost use Rattle.cgs_poly.specs.Polynomial.{IsRing, IsCanonical, canonical};
 ghost use Rattle.cgs_poly.specs.Draft.{HaveLength};
 ghost use Rattle.cgs_poly.specs.Merge.{AreAbove, StartsNotAbove, first_at, count_met, changed, EachTerm};
 

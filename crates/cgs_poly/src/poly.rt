@@ -1,6 +1,6 @@
 //! A polynomial, kept in two flat vectors.
 
-ghost use Rattle.std.specs.Prelude.{◌≡◌, ◌<◌, ◌≤◌, ◌^◌, ◌↔◌, [], ◌∷◌, ◌++◌, length, slice_get, IsTrue, IsNone, IfSome, IfOk, OnOk, OnErr, IsErrOf};
+ghost use Rattle.std.specs.Prelude.{◌≡◌, ◌<◌, ◌≤◌, ◌↔◌, [], ◌∷◌, ◌++◌, length, slice_get, IsTrue, IsNone, IfSome, IfOk, OnOk, OnErr, IsErrOf};
 ghost use Rattle.cgs_exps.specs.Monomial.{degree};
 ghost use Rattle.cgs_poly.specs.Polynomial.{IsRing, IsPoly, places, term, one, canonical, greatest_degree};
 ghost use Rattle.cgs_poly.specs.Draft.{HaveLength};
@@ -12,7 +12,7 @@ use crate::flat::part;
 use crate::ring::Ring;
 use cgs_exps::{MAX_DEGREE, MAX_PLACES, degree as monomial_degree};
 use cgs_field::Elem;
-use cgs_list::ItemList;
+use cgs_list::{Duplicate, ItemList};
 use std::alloc::{AllocError, Global};
 use std::marker::Model;
 
@@ -83,12 +83,8 @@ impl Poly {
         if monomial_degree(m) > MAX_DEGREE {
             return Err(PolyFault::Degree);
         }
-        if c.number() == 0 {
-            return Ok(Poly::zero(alloc));
-        }
-        let mut draft = Draft::with_room(alloc, m.len(), 1, m.len())?;
-        draft.push(c, m)?;
-        Ok(draft.finish())
+        let term = single(alloc, ring, c, m)?;
+        Ok(term)
     }
 
     /// The number of terms.
@@ -147,10 +143,16 @@ impl Poly {
         Ok(())
     }
 
-    /// The same polynomial in memory of its own.
-    pub fn copy(&self) -> Result<Poly, AllocError>
-        ensures { IfOk result (λ f. f ≡ self.now) }
+    /// Whether two polynomials are equal. Exponents are compared first: different members of a list mostly differ in the lead.
+    pub fn same(&self, other: &Poly) -> bool
+        ensures { IsTrue result ↔ (self.now ≡ other.now) }
     {
+        self.exponents == other.exponents && self.coefficients == other.coefficients
+    }
+}
+
+impl Duplicate for Poly {
+    fn copy(&self) -> Result<Poly, AllocError> {
         let coefficients = self.coefficients.clone()?;
         let exponents = self.exponents.clone()?;
         Ok(Poly {
@@ -159,11 +161,21 @@ impl Poly {
             places: self.places,
         })
     }
+}
 
-    /// Whether two polynomials are equal. Exponents are compared first: different members of a list mostly differ in the lead.
-    pub fn same(&self, other: &Poly) -> bool
-        ensures { IsTrue result ↔ (self.now ≡ other.now) }
-    {
-        self.exponents == other.exponents && self.coefficients == other.coefficients
+// The polynomial c times m.
+pub(crate) fn single(alloc: Global, ring: &Ring, c: Elem, m: &[u16]) -> Result<Poly, AllocError>
+    requires ring { IsRing ring.now }
+    requires coefficient { c < ring.now.modulus }
+    requires places { length m.now ≡ places ring.now }
+    requires low { degree m.now ≤ greatest_degree }
+    ensures sum { IfOk result (λ f. f ≡ canonical ring.now (term c m.now ∷ [])) }
+    ensures poly { IfOk result (λ f. IsPoly ring.now f) }
+{
+    if c.number() == 0 {
+        return Ok(Poly::zero(alloc));
     }
+    let mut draft = Draft::with_room(alloc, m.len(), 1, m.len())?;
+    draft.push(c, m)?;
+    Ok(draft.finish())
 }

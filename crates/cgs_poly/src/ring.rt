@@ -1,7 +1,7 @@
 //! The ring that polynomials are of.
 
 ghost use Rattle.std.specs.Prelude.{◌≡◌};
-ghost use Rattle.cgs_poly.specs.Polynomial.{IsRing, places, order_of};
+ghost use Rattle.cgs_poly.specs.Polynomial.{places, order_of};
 
 use cgs_field::Modulus;
 use cgs_order::{BlockOrder, Kind};

@@ -3,8 +3,10 @@
 ghost use Rattle.std.specs.Prelude.{◌≡◌, ◌≤◌, IfSome, IfOk};
 ghost use Rattle.cgs_poly.specs.Polynomial.{IsRing, IsPoly, places};
 
-use crate::{Poly, PolyFault, Ring};
+use crate::{Poly, PolyFault, PolyList, Ring, TermList, joined};
+use cgs_exps::{MAX_DEGREE, degree};
 use cgs_field::Modulus;
+use cgs_list::Duplicate;
 use cgs_order::Kind;
 use std::alloc::Global;
 use std::test::Fail;
@@ -27,16 +29,20 @@ fn ring(variables: u32) -> Option<Ring>
     })
 }
 
+#[tactic(auto, using(crate::proofs::TermLemmas::terms_have_length, cgs_list::proofs::ListLemmas::all_push))]
 fn poly(alloc: Global, ring: &Ring, terms: Terms<'_>) -> Result<Poly, PolyFault>
     requires valid { IsRing ring.now }
     requires two { places ring.now ≡ 2 }
     ensures { IfOk result (λ f. IsPoly ring.now f) }
 {
-    let mut f = Poly::zero(alloc);
+    let mut sum = TermList::new(alloc);
     for (c, m) in terms {
-        let term = Poly::of_term(alloc, ring, ring.modulus.of_u64(*c as u64), m)?;
-        f = Poly::add(alloc, ring, &f, &term)?;
+        if degree(m) > MAX_DEGREE {
+            return Err(PolyFault::Degree);
+        }
+        sum.push(ring.modulus.of_u64(*c as u64), m)?;
     }
+    let f = Poly::of_terms(alloc, ring, &sum)?;
     Ok(f)
 }
 
@@ -128,6 +134,20 @@ fn multiples(rt: HostRuntime) -> Result<(), Fail> {
     assert!(rt; has_terms(&pushed, &[(3, [1, 0])]));
     let zero = Poly::monic(rt.alloc(), &ring, &Poly::zero(rt.alloc()))?;
     assert_eq!(rt; (zero.len(), zero.lead().is_none()), (0, true));
+    Ok(())
+}
+
+#[test]
+fn lists(rt: HostRuntime) -> Result<(), Fail> {
+    let ring = ring(2).ok_or("no ring")?;
+    let f = poly(rt.alloc(), &ring, &[(3, [1, 0]), (6, [0, 0])])?;
+    let mut list = PolyList::new(rt.alloc());
+    list.push(f.copy()?)?;
+    let both = joined(rt.alloc(), &list, &list.copy()?)?;
+    assert_eq!(rt; both.len(), 2);
+    for g in &both {
+        assert!(rt; g.same(&f));
+    }
     Ok(())
 }
 

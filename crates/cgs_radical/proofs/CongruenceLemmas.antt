@@ -26,7 +26,8 @@ module _ (ring : Ring) (F : List (List Term)) (pos : 0 < ring.modulus) where
   congruent_trans f g h a b = record {
     rest = b.rest ++ a.rest;
     member = sum_member ring F pos b.rest a.rest b.member a.member;
-    sum = alike_trans a.sum (subst (λ k. Alike ring.modulus (g ++ a.rest) k) (append_assoc h b.rest a.rest) (alike_append b.sum (alike_same ring.modulus a.rest)));
+    sum = alike_trans a.sum
+        (subst (λ k. Alike ring.modulus (g ++ a.rest) k) (append_assoc h b.rest a.rest) (alike_append b.sum (alike_same ring.modulus a.rest)));
   }
 
   pub congruent_back : (f g : List Term) → AreCongruent ring F f g → AreCongruent ring F g f
@@ -38,10 +39,14 @@ module _ (ring : Ring) (F : List (List Term)) (pos : 0 < ring.modulus) where
         sum = record {
           under = λ w.
               let r : ℕ = total w a.rest in
-              let s : (total w f + minus * r) % ring.modulus ≡ ((total w g + r) + minus * r) % ring.modulus = mod_add ring.modulus (total w f) (total w g + r) (minus * r) (minus * r) (a.sum.under w ∙ ap (λ n. n % ring.modulus) (total_append w g a.rest)) refl in
-              let z : (total w g + (r + minus * r)) % ring.modulus ≡ (total w g + 0) % ring.modulus = mod_add ring.modulus (total w g) (total w g) (r + minus * r) 0 refl (mod_opposite ring.modulus r pos ∙ sym (zero-mod ring.modulus)) in
+              let s : (total w f + minus * r) % ring.modulus ≡ ((total w g + r) + minus * r) % ring.modulus =
+              mod_add ring.modulus (total w f) (total w g + r) (minus * r) (minus * r)
+              (a.sum.under w ∙ ap (λ n. n % ring.modulus) (total_append w g a.rest)) refl in
+              let z : (total w g + (r + minus * r)) % ring.modulus ≡ (total w g + 0) % ring.modulus =
+              mod_add ring.modulus (total w g) (total w g) (r + minus * r) 0 refl (mod_opposite ring.modulus r pos ∙ sym (zero-mod ring.modulus)) in
               let e : (total w g + r) + minus * r ≡ total w g + (r + minus * r) = omega arith in
-              sym (ap (λ n. n % ring.modulus) (total_append w f (scaled minus a.rest) ∙ ap (λ n. total w f + n) (total_scaled w minus a.rest)) ∙ (s ∙ (ap (λ n. n % ring.modulus) e ∙ (z ∙ ap (λ n. n % ring.modulus) (add-zero (total w g))))));
+              sym (ap (λ n. n % ring.modulus) (total_append w f (scaled minus a.rest) ∙ ap (λ n. total w f + n) (total_scaled w minus a.rest))
+              ∙ (s ∙ (ap (λ n. n % ring.modulus) e ∙ (z ∙ ap (λ n. n % ring.modulus) (add-zero (total w g))))));
         };
       }
 
@@ -52,7 +57,8 @@ module _ (ring : Ring) (F : List (List Term)) (pos : 0 < ring.modulus) where
     sum = subst (λ k. Alike ring.modulus (all_products f n) k) (products_append g a.rest n) (alike_products a.sum (alike_same ring.modulus n));
   }
 
-  pub congruent_multiple : (c : ℕ) (t : List ℕ) (f g : List Term) → length t ≡ places ring → AreCongruent ring F f g → AreCongruent ring F (multiple c t f) (multiple c t g)
+  pub congruent_multiple : (c : ℕ) (t : List ℕ) (f g : List Term) → length t ≡ places ring
+      → AreCongruent ring F f g → AreCongruent ring F (multiple c t f) (multiple c t g)
   congruent_multiple c t f g l a = record {
     rest = multiple c t a.rest;
     member = multiple_member ring F pos c t a.rest l a.member;
@@ -67,7 +73,8 @@ module _ (ring : Ring) (F : List (List Term)) (pos : 0 < ring.modulus) where
     sum = record {
       under = λ w.
           let s = mod_add ring.modulus (total w f) (total w (g ++ a.rest)) (total w k) (total w k) (a.sum.under w) refl in
-          let e : total w (g ++ a.rest) + total w k ≡ total w ((g ++ k) ++ a.rest) = omega (arith, total_append w g a.rest, total_append w (g ++ k) a.rest, total_append w g k) in
+          let e : total w (g ++ a.rest) + total w k ≡ total w ((g ++ k) ++ a.rest) =
+          omega (arith, total_append w g a.rest, total_append w (g ++ k) a.rest, total_append w g k) in
           ap (λ n. n % ring.modulus) (total_append w f k) ∙ (s ∙ ap (λ n. n % ring.modulus) e);
     };
   }

@@ -54,7 +54,8 @@ module _ (ring : Ring) (pos : 0 < ring.modulus) (some : ring.variables ≡ 1) wh
   y_alike q h = canonical_alike ring (multiple 1 y q ++ minus_one) pos (terms_of_ring q h)
 
   -- of congruent polynomials
-  pub y_congruent : (F : List (List Term)) (q r : List Term) → IsOfRing ring q → IsOfRing ring r → AreCongruent ring F q r → AreCongruent ring F (y_times_less_one ring q) (y_times_less_one ring r)
+  pub y_congruent : (F : List (List Term)) (q r : List Term) → IsOfRing ring q → IsOfRing ring r
+      → AreCongruent ring F q r → AreCongruent ring F (y_times_less_one ring q) (y_times_less_one ring r)
   y_congruent F q r h k a =
       congruent_trans ring F pos (y_times_less_one ring q) (multiple 1 y q ++ minus_one) (y_times_less_one ring r)
       (alike_congruent ring F pos (y_times_less_one ring q) (multiple 1 y q ++ minus_one) (y_alike q h))
@@ -69,22 +70,29 @@ module _ (ring : Ring) (pos : 0 < ring.modulus) (some : ring.variables ≡ 1) wh
       let hz = canonical_of_ring ring z (y_canonical q h) in
       let minus : ℕ = ring.modulus - 1 in
       let more = member_more ring F (z ∷ []) (multiple 1 y q) (multiple_member ring F pos 1 y q y_long m) in
-      let last = scaled_member ring (F ++ z ∷ []) pos minus z (scaled minus z) (λ w. ap (λ n. n % ring.modulus) (total_scaled w minus z)) (last_member ring F z pos hz) in
+      let last =
+      scaled_member ring (F ++ z ∷ []) pos minus z (scaled minus z) (λ w. ap (λ n. n % ring.modulus) (total_scaled w minus z)) (last_member ring F z pos hz) in
       same_member ring (F ++ z ∷ []) pos (record { under = sums }) (sum_member ring (F ++ z ∷ []) pos (multiple 1 y q) (scaled minus z) more last)
     where
-      sums : (w : List ℕ → ℕ) → total w (one ring) % ring.modulus ≡ total w (multiple 1 y q ++ scaled (ring.modulus - 1) (y_times_less_one ring q)) % ring.modulus
+      sums : (w : List ℕ → ℕ) → total w (one ring) % ring.modulus
+          ≡ total w (multiple 1 y q ++ scaled (ring.modulus - 1) (y_times_less_one ring q)) % ring.modulus
       sums w =
           let p : ℕ = ring.modulus in
           let a : ℕ = total w (multiple 1 y q) in
           let b : ℕ = w (replicate (places ring) 0) in
           let c : ℕ = total w (y_times_less_one ring q) in
           let s : c % ring.modulus ≡ (a + (ring.modulus - 1) * b) % ring.modulus =
-          (y_alike q h).under w ∙ ap (λ n. n % ring.modulus) (total_append w (multiple 1 y q) minus_one ∙ ap (λ n. a + n) (add-zero ((ring.modulus - 1) * b))) in
-          let t : ((ring.modulus - 1) * c) % ring.modulus ≡ ((ring.modulus - 1) * (a + (ring.modulus - 1) * b)) % ring.modulus = mod_mul ring.modulus (ring.modulus - 1) (ring.modulus - 1) c (a + (ring.modulus - 1) * b) refl s in
+          (y_alike q h).under w
+          ∙ ap (λ n. n % ring.modulus) (total_append w (multiple 1 y q) minus_one ∙ ap (λ n. a + n) (add-zero ((ring.modulus - 1) * b))) in
+          let t : ((ring.modulus - 1) * c) % ring.modulus ≡ ((ring.modulus - 1) * (a + (ring.modulus - 1) * b)) % ring.modulus =
+          mod_mul ring.modulus (ring.modulus - 1) (ring.modulus - 1) c (a + (ring.modulus - 1) * b) refl s in
           let u : ((ring.modulus - 1) * c) % ring.modulus ≡ (b + (ring.modulus - 1) * a) % ring.modulus = t ∙ sym (mod_twice ring.modulus b a pos) in
-          let v : (a + (ring.modulus - 1) * c) % ring.modulus ≡ (a + (b + (ring.modulus - 1) * a)) % ring.modulus = mod_add ring.modulus a a ((ring.modulus - 1) * c) (b + (ring.modulus - 1) * a) refl u in
+          let v : (a + (ring.modulus - 1) * c) % ring.modulus ≡ (a + (b + (ring.modulus - 1) * a)) % ring.modulus =
+          mod_add ring.modulus a a ((ring.modulus - 1) * c) (b + (ring.modulus - 1) * a) refl u in
           let x : a + (b + (ring.modulus - 1) * a) ≡ b + (a + (ring.modulus - 1) * a) = omega arith in
-          let e : (b + (a + (ring.modulus - 1) * a)) % ring.modulus ≡ (b + 0) % ring.modulus = mod_add ring.modulus b b (a + (ring.modulus - 1) * a) 0 refl (mod_opposite ring.modulus a pos ∙ sym (zero-mod ring.modulus)) in
+          let e : (b + (a + (ring.modulus - 1) * a)) % ring.modulus ≡ (b + 0) % ring.modulus =
+          mod_add ring.modulus b b (a + (ring.modulus - 1) * a) 0 refl (mod_opposite ring.modulus a pos ∙ sym (zero-mod ring.modulus)) in
           let o : total w (one ring) ≡ b + 0 = omega arith in
-          let d = total_append w (multiple 1 y q) (scaled (ring.modulus - 1) (y_times_less_one ring q)) ∙ ap (λ n. a + n) (total_scaled w (ring.modulus - 1) (y_times_less_one ring q)) in
+          let d = total_append w (multiple 1 y q) (scaled (ring.modulus - 1) (y_times_less_one ring q))
+          ∙ ap (λ n. a + n) (total_scaled w (ring.modulus - 1) (y_times_less_one ring q)) in
           sym (ap (λ n. n % ring.modulus) d ∙ (v ∙ (ap (λ n. n % ring.modulus) x ∙ (e ∙ ap (λ n. n % ring.modulus) (sym o)))))

@@ -1,5 +1,6 @@
 -- The emptiness run tells whether the conditions contradict each other.
-use Rattle.std.proofs.Common.{ℕ, zero, suc, ◌≡◌, ◌<◌, ◌↔◌, inr, Bool, true, false, cond, IsTrue, List, [], ◌∷◌, ◌++◌, length, get_or, replicate, refl, sym, ◌∙◌, subst, arith}
+use Rattle.std.proofs.Common.{ℕ, zero, suc, ◌≡◌, ◌<◌, ◌↔◌, inr, Bool, true, false, cond, IsTrue, List, [], ◌∷◌, ◌++◌, length, get_or, replicate, refl, sym, ◌∙◌}
+use Rattle.std.proofs.Common.{subst, arith}
 use Rattle.std.specs.List.{AllByRecursion}
 use Rattle.cgs_field.specs.Prime.{IsField}
 use Rattle.cgs_field.proofs.PrimeLemmas.{modulus_field}
@@ -20,7 +21,8 @@ use Rattle.cgs_basis.specs.BasisRun.{basis_run}
 use Rattle.cgs_basis.proofs.BasisLemmas.{basis_reduced}
 use Rattle.cgs_divide.specs.AutoreductionRun.{ListRun}
 use Rattle.cgs_divide.specs.AutoreductionRun as list
-use Rattle.cgs_radical.specs.EmptinessRun.{Ending, ended, out_of_degree, followed, BasisRun, y_ring, with_y, y_times_less_one, products_remainder, is_one_alone, contradiction_run, found, buchberger}
+use Rattle.cgs_radical.specs.EmptinessRun.{Ending, ended, out_of_degree, followed, BasisRun, y_ring, with_y, y_times_less_one, products_remainder, is_one_alone}
+use Rattle.cgs_radical.specs.EmptinessRun.{contradiction_run, found, buchberger}
 use Rattle.cgs_radical.specs.Laws.{FindsBases, product_of, RunsDecide, EmptyIsContradiction}
 use Rattle.cgs_radical.proofs.CongruenceLemmas.{AreCongruent, congruent_back, congruent_member}
 use Rattle.cgs_radical.proofs.ProductRunLemmas.{has_followed, ended_same, product_of_ring, one_times, products_same, products_canonical}
@@ -28,13 +30,15 @@ use Rattle.cgs_radical.proofs.ContradictionLemmas.{one_alone_is_member, y_canoni
 
 -- lists in the ring with y
 
-pub y_ring_is_ring : (ring : Ring) → IsRing ring → IsRing (y_ring ring)
+y_ring_is_ring : (ring : Ring) → IsRing ring → IsRing (y_ring ring)
 y_ring_is_ring ring r = record { modulus = r.modulus; some = omega arith; variables = omega arith; parameters = r.parameters }
 
 pub with_y_canonical : (ring : Ring) (F : List (List Term)) → AllByRecursion (IsParametric ring) F → AllByRecursion (IsCanonical (y_ring ring)) (with_y ring F)
 with_y_canonical ring [] h = tt
-with_y_canonical ring (f ∷ F) h =
-    (recast_is_canonical ring (y_ring ring) f (record { modulus = refl; kind = refl; parameters = refl; variables = inr h.0.free }) h.0.canonical, with_y_canonical ring F h.1)
+with_y_canonical ring (f ∷ F) h = (
+  recast_is_canonical ring (y_ring ring) f (record { modulus = refl; kind = refl; parameters = refl; variables = inr h.0.free }) h.0.canonical,
+  with_y_canonical ring F h.1,
+)
 
 pub all_of_ring : (ring : Ring) (F : List (List Term)) → AllByRecursion (IsCanonical ring) F → AllByRecursion (IsOfRing ring) F
 all_of_ring ring [] h = tt
@@ -46,11 +50,13 @@ at_place P (f ∷ F) h zero l = h.0
 at_place P (f ∷ F) h (suc i) l = at_place P F h.1 i (omega arith)
 
 -- B and one polynomial more
-pub all_with_last : (P : List Term → Type 0) (B : List (List Term)) (z : List Term) → ((i : ℕ) → i < length B → P (get_or B i [])) → P z → AllByRecursion P (B ++ z ∷ [])
+pub all_with_last : (P : List Term → Type 0) (B : List (List Term)) (z : List Term)
+    → ((i : ℕ) → i < length B → P (get_or B i [])) → P z → AllByRecursion P (B ++ z ∷ [])
 all_with_last P [] z h k = (k, tt)
 all_with_last P (b ∷ B) z h k = (h 0 (omega arith), all_with_last P B z (λ i l. h (suc i) (omega arith)) k)
 
-module _ (ring : Ring) (field : IsField ring.modulus) (some : ring.variables ≡ 1) (E B : List (List Term)) (p r : List Term) (canonical : AllByRecursion (IsCanonical ring) E) (reduced : IsReduced ring B E)
+module _ (ring : Ring) (field : IsField ring.modulus) (some : ring.variables ≡ 1) (E B : List (List Term))
+    (p r : List Term) (canonical : AllByRecursion (IsCanonical ring) E) (reduced : IsReduced ring B E)
     (hp : IsOfRing ring p) (hr : IsOfRing ring r) (same : AreCongruent ring E p r) where
   pos : 0 < ring.modulus
   pos = omega (arith, field.two)
@@ -81,12 +87,13 @@ module _ (ring : Ring) (field : IsField ring.modulus) (some : ring.variables ≡
   back = congruent_back ring E pos zp z forth
 
   -- the ideals of B and y*r - 1, and of E and y*p - 1
-  pub from_basis : (f : List Term) → IsMember ring (B ++ z ∷ []) f → IsMember ring (E ++ zp ∷ []) f
+  from_basis : (f : List Term) → IsMember ring (B ++ z ∷ []) f → IsMember ring (E ++ zp ∷ []) f
   from_basis f m =
       members_of_more ring B z pos (E ++ zp ∷ []) (λ i l. member_more ring E (zp ∷ []) (get_or B i []) (reduced.minimal.groebner.members i l))
-      (same_member ring (E ++ zp ∷ []) pos back.sum (sum_member ring (E ++ zp ∷ []) pos zp back.rest (last_member ring E zp pos zp_ring) (member_more ring E (zp ∷ []) back.rest back.member))) f m
+      (same_member ring (E ++ zp ∷ []) pos back.sum
+      (sum_member ring (E ++ zp ∷ []) pos zp back.rest (last_member ring E zp pos zp_ring) (member_more ring E (zp ∷ []) back.rest back.member))) f m
 
-  pub to_basis : (f : List Term) → IsMember ring (E ++ zp ∷ []) f → IsMember ring (B ++ z ∷ []) f
+  to_basis : (f : List Term) → IsMember ring (E ++ zp ∷ []) f → IsMember ring (B ++ z ∷ []) f
   to_basis f m =
       members_of_more ring E zp pos (B ++ z ∷ []) (λ i l. member_more ring B (z ∷ []) (get_or E i []) (e_in_b i l))
       (same_member ring (B ++ z ∷ []) pos forth.sum (sum_member ring (B ++ z ∷ []) pos z forth.rest (last_member ring B z pos z_ring)
@@ -100,7 +107,8 @@ not_high : {A : Type 0} (b : Bool) (m : ℕ) (run : Ending A) (result : A) (left
 not_high true m run result left e = absurd (cc)
 not_high false m run result left e = e
 
-module _ (basis : BasisRun) (ring : Ring) (finds : FindsBases basis) (r : IsRing ring) (some : ring.variables ≡ 1) (E B : List (List Term)) (p : List Term) (canonical : AllByRecursion (IsCanonical ring) E) (reduced : IsReduced ring B E)
+module _ (basis : BasisRun) (ring : Ring) (finds : FindsBases basis) (r : IsRing ring) (some : ring.variables ≡ 1) (E B : List (List Term))
+    (p : List Term) (canonical : AllByRecursion (IsCanonical ring) E) (reduced : IsReduced ring B E)
     (hp : IsOfRing ring p) where
   abbrev field : IsField ring.modulus
   field = modulus_field ring.modulus r.modulus
@@ -111,7 +119,8 @@ module _ (basis : BasisRun) (ring : Ring) (finds : FindsBases basis) (r : IsRing
   abbrev Contradicted : Type 0
   Contradicted = IsMember ring (E ++ y_times_less_one ring p ∷ []) (one ring)
 
-  ended_by : (q : List Term) (units left : ℕ) (empty : Bool) → IsCanonical ring q → AreCongruent ring E p q → contradiction_run basis ring B q units ≡ ended empty left → IsTrue empty ↔ Contradicted
+  ended_by : (q : List Term) (units left : ℕ) (empty : Bool) → IsCanonical ring q → AreCongruent ring E p q
+      → contradiction_run basis ring B q units ≡ ended empty left → IsTrue empty ↔ Contradicted
   ended_by [] units left empty h same e =
       let t : true ≡ empty = ended_same true empty units left e in
       let m = congruent_member ring E positive p [] same (zero_member ring E positive) in
@@ -119,7 +128,8 @@ module _ (basis : BasisRun) (ring : Ring) (finds : FindsBases basis) (r : IsRing
   ended_by (x ∷ q) units left empty h same e =
       let hr = canonical_of_ring ring (x ∷ q) h in
       let z : List Term = y_times_less_one ring (x ∷ q) in
-      let run = not_high (is_too_high (multiple 1 (1 ∷ replicate ring.parameters 0) (x ∷ q))) units (followed (basis ring units (B ++ z ∷ [])) (λ G. ended (is_one_alone ring G))) empty left e in
+      let run = not_high (is_too_high (multiple 1 (1 ∷ replicate ring.parameters 0) (x ∷ q))) units
+      (followed (basis ring units (B ++ z ∷ [])) (λ G. ended (is_one_alone ring G))) empty left e in
       let f = has_followed (basis ring units (B ++ z ∷ [])) (λ G. ended (is_one_alone ring G)) empty left run in
       let s : is_one_alone ring f.first ≡ empty = ended_same (is_one_alone ring f.first) empty f.units left f.then in
       let k = finds.reduced ring units f.units (B ++ z ∷ []) f.first r (basis_canonical ring field some E B p (x ∷ q) canonical reduced hp hr same) f.ran in
@@ -141,11 +151,14 @@ runs_decide basis finds ring E N units left empty r he hn e =
     let a = has_followed (basis (y_ring ring) units (with_y ring E)) _ empty left e in
     let B : List (List Term) = a.first in
     let reduced = finds.reduced (y_ring ring) units a.units (with_y ring E) a.first ry hf a.ran in
-    let b = has_followed (products_remainder (y_ring ring) a.first (with_y ring N) (one (y_ring ring)) a.units) (contradiction_run basis (y_ring ring) a.first) empty left a.then in
+    let b = has_followed (products_remainder (y_ring ring) a.first (with_y ring N) (one (y_ring ring)) a.units)
+    (contradiction_run basis (y_ring ring) a.first) empty left a.then in
     let p : List Term = product_of (y_ring ring) (with_y ring N) in
     let hp = product_of_ring (y_ring ring) (with_y ring N) hm in
-    let same = products_same (y_ring ring) (with_y ring E) a.first pos reduced.monic reduced.minimal.groebner.members (with_y ring N) (one (y_ring ring)) b.first a.units b.units hm (one_canonical (y_ring ring) two) b.ran in
-    let q = products_canonical (y_ring ring) (with_y ring E) a.first pos reduced.monic reduced.minimal.groebner.members (with_y ring N) (one (y_ring ring)) b.first a.units b.units hm (one_canonical (y_ring ring) two) b.ran in
+    let same = products_same (y_ring ring) (with_y ring E) a.first pos reduced.monic reduced.minimal.groebner.members
+    (with_y ring N) (one (y_ring ring)) b.first a.units b.units hm (one_canonical (y_ring ring) two) b.ran in
+    let q = products_canonical (y_ring ring) (with_y ring E) a.first pos reduced.monic reduced.minimal.groebner.members
+    (with_y ring N) (one (y_ring ring)) b.first a.units b.units hm (one_canonical (y_ring ring) two) b.ran in
     ended_by basis (y_ring ring) finds ry refl (with_y ring E) a.first p hf reduced hp b.first b.units left empty q
     (subst (λ f. AreCongruent (y_ring ring) (with_y ring E) f b.first) (one_times (y_ring ring) p hp) same) b.then
 
@@ -156,9 +169,10 @@ found_done (list.done G' units') G left e = cc
 found_done (list.out_of_budget units') G left e = absurd (cc)
 found_done (list.out_of_degree units') G left e = absurd (cc)
 
-pub buchberger_finds : FindsBases buchberger
+buchberger_finds : FindsBases buchberger
 buchberger_finds = record {
-  reduced = λ ring units left F G r ok e. (basis_reduced ring F G units left r (at_place (λ f. IsCanonical ring f) F ok) (found_done (basis_run ring F units) G left e)).0;
+  reduced = λ ring units left F G r ok e.
+      (basis_reduced ring F G units left r (at_place (λ f. IsCanonical ring f) F ok) (found_done (basis_run ring F units) G left e)).0;
 }
 
 pub empty_is_contradiction : EmptyIsContradiction

@@ -17,7 +17,8 @@ use Rattle.cgs_divide.specs.DivisionRun as division
 use Rattle.cgs_divide.specs.Division.{HasDivided}
 use Rattle.cgs_divide.proofs.DivisionLemmas.{divided_divides}
 use Rattle.cgs_divide.proofs.QuotientCombinationLemmas.{summands_of, division_combination, division_sum}
-use Rattle.cgs_radical.specs.EmptinessRun.{Ending, ended, out_of_budget, out_of_degree, followed, remainder_of, product_cost, product_remainder, products_remainder}
+use Rattle.cgs_radical.specs.EmptinessRun.{Ending, ended, out_of_budget, out_of_degree, followed, remainder_of, product_cost, product_remainder}
+use Rattle.cgs_radical.specs.EmptinessRun.{products_remainder}
 use Rattle.cgs_radical.specs.Laws.{product_of}
 use Rattle.cgs_radical.proofs.CongruenceLemmas.{AreCongruent, alike_congruent, congruent_trans, congruent_product}
 
@@ -30,7 +31,8 @@ pub record HasFollowed {A B : Type 0} (run : Ending A) (next : A → ℕ → End
   pub ran : run ≡ ended first units
   pub then : next first units ≡ ended result left
 
-pub has_followed : {A B : Type 0} (run : Ending A) (next : A → ℕ → Ending B) (result : B) (left : ℕ) → followed run next ≡ ended result left → HasFollowed run next result left
+pub has_followed : {A B : Type 0} (run : Ending A) (next : A → ℕ → Ending B) (result : B) (left : ℕ)
+    → followed run next ≡ ended result left → HasFollowed run next result left
 has_followed (ended a units) next result left e = record { first = a; units = units; ran = refl; then = e }
 has_followed (out_of_budget units) next result left e = absurd (cc)
 has_followed (out_of_degree units) next result left e = absurd (cc)
@@ -44,14 +46,15 @@ divided_remainder (division.out_of_budget u) r left e = absurd (cc)
 divided_remainder (division.out_of_degree u) r left e = absurd (cc)
 
 -- a step that has a result was paid, and was not too high
-product_ran : (a b : Bool) (m n : ℕ) (run : Ending (List Term)) (r : List Term) (left : ℕ) → cond a (out_of_budget m) (cond b (out_of_degree n) run) ≡ ended r left → run ≡ ended r left
+product_ran : (a b : Bool) (m n : ℕ) (run : Ending (List Term)) (r : List Term) (left : ℕ)
+    → cond a (out_of_budget m) (cond b (out_of_degree n) run) ≡ ended r left → run ≡ ended r left
 product_ran true b m n run r left e = absurd (cc)
 product_ran false true m n run r left e = absurd (cc)
 product_ran false false m n run r left e = e
 
 -- products
 
-pub one_of_ring : (ring : Ring) → IsOfRing ring (one ring)
+one_of_ring : (ring : Ring) → IsOfRing ring (one ring)
 one_of_ring ring = (length-replicate {A = ℕ} (places ring) 0, tt)
 
 pub product_of_ring : (ring : Ring) (N : List (List Term)) → AllByRecursion (IsOfRing ring) N → IsOfRing ring (product_of ring N)
@@ -62,17 +65,23 @@ product_of_ring ring (n ∷ N) h = products_of_ring ring n (product_of ring N) h
 products_multiple : (c : ℕ) (t : List ℕ) (f g : List Term) → all_products (multiple c t f) g ≡ multiple c t (all_products f g)
 products_multiple c t [] g = refl
 products_multiple c t (x ∷ f) g =
-    cc (multiple_multiple c x.coefficient t x.exponents g, products_multiple c t f g, multiple_append c t (multiple x.coefficient x.exponents g) (all_products f g))
+    cc (
+      multiple_multiple c x.coefficient t x.exponents g,
+      products_multiple c t f g,
+      multiple_append c t (multiple x.coefficient x.exponents g) (all_products f g),
+    )
 
 products_assoc : (f g h : List Term) → all_products (all_products f g) h ≡ all_products f (all_products g h)
 products_assoc [] g h = refl
-products_assoc (x ∷ f) g h = products_append (multiple x.coefficient x.exponents g) (all_products f g) h ∙ cc (products_multiple x.coefficient x.exponents g h, products_assoc f g h)
+products_assoc (x ∷ f) g h =
+    products_append (multiple x.coefficient x.exponents g) (all_products f g) h ∙ cc (products_multiple x.coefficient x.exponents g h, products_assoc f g h)
 
 -- times 1
 pub one_times : (ring : Ring) (f : List Term) → IsOfRing ring f → all_products (one ring) f ≡ f
 one_times ring f h = append-nil (multiple 1 (replicate (places ring) 0) f) ∙ multiple_one ring f h
 
-module _ (ring : Ring) (F B : List (List Term)) (pos : 0 < ring.modulus) (ok : AreMonic ring B) (inside : (i : ℕ) → i < length B → IsMember ring F (get_or B i [])) where
+module _ (ring : Ring) (F B : List (List Term)) (pos : 0 < ring.modulus) (ok : AreMonic ring B)
+    (inside : (i : ℕ) → i < length B → IsMember ring F (get_or B i [])) where
   abbrev Same : List Term → List Term → Type 0
   Same f g = AreCongruent ring F f g
 
@@ -80,7 +89,9 @@ module _ (ring : Ring) (F B : List (List Term)) (pos : 0 < ring.modulus) (ok : A
   divided_same : (f r : List Term) (quotients : List (List Term)) → HasDivided ring B f r quotients → Same f r
   divided_same f r quotients d = record {
     rest = combined B (summands_of quotients);
-    member = member_of_members ring B F pos inside (combined B (summands_of quotients)) (member_from_alike ring B pos (summands_of quotients) (division_combination ring B f r quotients d) (alike_same ring.modulus (combined B (summands_of quotients))));
+    member = member_of_members ring B F pos inside (combined B (summands_of quotients))
+        (member_from_alike ring B pos (summands_of quotients) (division_combination ring B f r quotients d)
+        (alike_same ring.modulus (combined B (summands_of quotients))));
     sum = alike_trans (division_sum ring B f r quotients d pos) (alike_swap ring.modulus (combined B (summands_of quotients)) r);
   }
 
@@ -88,12 +99,15 @@ module _ (ring : Ring) (F B : List (List Term)) (pos : 0 < ring.modulus) (ok : A
     same : Same f r
     canonical : IsCanonical ring r
 
-  product_same : (q n : List Term) (units left : ℕ) (r : List Term) → IsOfRing ring q → IsOfRing ring n → product_remainder ring B q n units ≡ ended r left → IsRemainder (all_products q n) r
+  product_same : (q n : List Term) (units left : ℕ) (r : List Term) → IsOfRing ring q → IsOfRing ring n
+      → product_remainder ring B q n units ≡ ended r left → IsRemainder (all_products q n) r
   product_same q n units left r hq hn e =
-      let run = product_ran (nat_lt units (product_cost q n)) (is_too_high (all_products q n)) units (units - product_cost q n) (remainder_of (divided ring B (units - product_cost q n) (canonical ring (all_products q n)))) r left e in
+      let run = product_ran (nat_lt units (product_cost q n)) (is_too_high (all_products q n)) units (units - product_cost q n)
+      (remainder_of (divided ring B (units - product_cost q n) (canonical ring (all_products q n)))) r left e in
       let d = divided_remainder (divided ring B (units - product_cost q n) (canonical ring (all_products q n))) r left run in
       let hp = products_of_ring ring q n hq hn in
-      let k = divided_divides ring B pos ok (units - product_cost q n) left (canonical ring (all_products q n)) r d.0 (is_canonical ring (all_products q n) pos hp) d.1 in
+      let k = divided_divides ring B pos ok (units - product_cost q n) left (canonical ring (all_products q n))
+      r d.0 (is_canonical ring (all_products q n) pos hp) d.1 in
       record {
         same = congruent_trans ring F pos (all_products q n) (canonical ring (all_products q n)) r
             (alike_congruent ring F pos (all_products q n) (canonical ring (all_products q n)) (alike_back (canonical_alike ring (all_products q n) pos hp)))
@@ -102,9 +116,11 @@ module _ (ring : Ring) (F B : List (List Term)) (pos : 0 < ring.modulus) (ok : A
       }
 
   -- the remainder that is found at last is congruent to the whole product
-  pub products_same : (N : List (List Term)) (q r : List Term) (units left : ℕ) → AllByRecursion (IsOfRing ring) N → IsCanonical ring q → products_remainder ring B N q units ≡ ended r left
+  pub products_same : (N : List (List Term)) (q r : List Term) (units left : ℕ) → AllByRecursion (IsOfRing ring) N
+      → IsCanonical ring q → products_remainder ring B N q units ≡ ended r left
       → Same (all_products q (product_of ring N)) r
-  products_same N [] r units left h k e = alike_congruent ring F pos [] r (subst (λ s. Alike ring.modulus [] s) (ended_same [] r units left (nothing N e)) (alike_same ring.modulus []))
+  products_same N [] r units left h k e =
+      alike_congruent ring F pos [] r (subst (λ s. Alike ring.modulus [] s) (ended_same [] r units left (nothing N e)) (alike_same ring.modulus []))
     where
       nothing : (N : List (List Term)) → products_remainder ring B N [] units ≡ ended r left → ended [] units ≡ ended r left
       nothing [] e = e
@@ -113,7 +129,8 @@ module _ (ring : Ring) (F B : List (List Term)) (pos : 0 < ring.modulus) (ok : A
       let s : x ∷ q ≡ r = ended_same (x ∷ q) r units left e in
       let of_ring = canonical_of_ring ring (x ∷ q) k in
       alike_congruent ring F pos (all_products (x ∷ q) (one ring)) r
-      (subst (λ f. Alike ring.modulus (all_products (x ∷ q) (one ring)) f) s (subst (λ f. Alike ring.modulus (all_products (x ∷ q) (one ring)) f) (one_times ring (x ∷ q) of_ring) (products_comm ring.modulus (x ∷ q) (one ring))))
+      (subst (λ f. Alike ring.modulus (all_products (x ∷ q) (one ring)) f) s
+      (subst (λ f. Alike ring.modulus (all_products (x ∷ q) (one ring)) f) (one_times ring (x ∷ q) of_ring) (products_comm ring.modulus (x ∷ q) (one ring))))
   products_same (n ∷ N) (x ∷ q) r units left h k e =
       let f = has_followed (product_remainder ring B (x ∷ q) n units) (products_remainder ring B N) r left e in
       let a = product_same (x ∷ q) n units f.units f.first (canonical_of_ring ring (x ∷ q) k) h.0 f.ran in
@@ -123,7 +140,8 @@ module _ (ring : Ring) (F B : List (List Term)) (pos : 0 < ring.modulus) (ok : A
       subst (λ g. Same g r) (products_assoc (x ∷ q) n P) (congruent_trans ring F pos (all_products (all_products (x ∷ q) n) P) (all_products f.first P) r c b)
 
   -- and canonical
-  pub products_canonical : (N : List (List Term)) (q r : List Term) (units left : ℕ) → AllByRecursion (IsOfRing ring) N → IsCanonical ring q → products_remainder ring B N q units ≡ ended r left → IsCanonical ring r
+  pub products_canonical : (N : List (List Term)) (q r : List Term) (units left : ℕ) → AllByRecursion (IsOfRing ring) N
+      → IsCanonical ring q → products_remainder ring B N q units ≡ ended r left → IsCanonical ring r
   products_canonical [] [] r units left h k e = subst (λ f. IsCanonical ring f) (ended_same [] r units left e) tt
   products_canonical (n ∷ N) [] r units left h k e = subst (λ f. IsCanonical ring f) (ended_same [] r units left e) tt
   products_canonical [] (x ∷ q) r units left h k e = subst (λ f. IsCanonical ring f) (ended_same (x ∷ q) r units left e) k

@@ -1,28 +1,28 @@
 -- How the run that reduces a product ends.
-use Rattle.std.proofs.Common.{ℕ, ◌≡◌, ◌+◌, ◌-◌, ◌<◌, ◌≤◌, true, false, Some, List, [], ◌∷◌, drop, refl, sym, ap, ◌∙◌, subst}
+use Rattle.std.proofs.Common.{ℕ, ◌≡◌, ◌+◌, ◌-◌, ◌≤◌, true, false, Some, List, [], ◌∷◌, drop, refl, sym, ap, ◌∙◌, subst}
 use Rattle.std.specs.Prelude.{slice_get}
 use Rattle.cgs_list.proofs.ListLemmas.{drop_at}
-use Rattle.std.proofs.lemmas.Bool.{lt-ltb, le-ltb}
+use Rattle.std.proofs.lemmas.Bool.{le-ltb}
 use Rattle.cgs_poly.specs.declared.ring.Ring.{Ring}
 use Rattle.cgs_poly.specs.Polynomial.{Term, canonical}
 use Rattle.cgs_poly.specs.Product.{all_products}
 use Rattle.cgs_divide.specs.DivisionRun.{Run, divided, is_too_high}
-use Rattle.cgs_radical.specs.EmptinessRun.{Ending, ended, out_of_budget, out_of_degree, followed, remainder_of, product_cost, product_remainder, products_remainder}
+use Rattle.cgs_radical.specs.EmptinessRun.{Ending, ended, out_of_budget, out_of_degree, followed, remainder_of, product_cost, product_remainder}
+use Rattle.cgs_radical.specs.EmptinessRun.{products_remainder}
 
 module _ (ring : Ring) (B : List (List Term)) (q n : List Term) (units : ℕ) where
-  -- the product cannot be paid
-  pub unpaid : (left : ℕ) → units < product_cost q n → left ≡ units → product_remainder ring B q n units ≡ out_of_budget left
-  unpaid left l e = rw (lt-ltb units (product_cost q n) l, e) refl
-
   -- it is paid, and a monomial of it is too high
-  pub too_high_product : (left : ℕ) → product_cost q n ≤ units → left ≡ units - product_cost q n → is_too_high (all_products q n) ≡ true → product_remainder ring B q n units ≡ out_of_degree left
+  pub too_high_product : (left : ℕ) → product_cost q n ≤ units → left ≡ units - product_cost q n
+      → is_too_high (all_products q n) ≡ true → product_remainder ring B q n units ≡ out_of_degree left
   too_high_product left l e h = rw (le-ltb units (product_cost q n) l, h, e) refl
 
   -- it is divided
-  pub divided_product : (left : ℕ) (f : List Term) (run : Run) → product_cost q n ≤ units → left ≡ units - product_cost q n → is_too_high (all_products q n) ≡ false → f ≡ canonical ring (all_products q n)
+  pub divided_product : (left : ℕ) (f : List Term) (run : Run) → product_cost q n ≤ units → left ≡ units - product_cost q n
+      → is_too_high (all_products q n) ≡ false → f ≡ canonical ring (all_products q n)
       → divided ring B left f ≡ run → product_remainder ring B q n units ≡ remainder_of run
   divided_product left f run l e h p d =
-      let s : divided ring B (units - product_cost q n) (canonical ring (all_products q n)) ≡ run = ap (λ k. divided ring B k (canonical ring (all_products q n))) (sym e) ∙ (ap (divided ring B left) (sym p) ∙ d) in
+      let s : divided ring B (units - product_cost q n) (canonical ring (all_products q n)) ≡ run =
+      ap (λ k. divided ring B k (canonical ring (all_products q n))) (sym e) ∙ (ap (divided ring B left) (sym p) ∙ d) in
       rw (le-ltb units (product_cost q n) l, h, s) refl
 
 -- factor by factor
@@ -31,23 +31,26 @@ nothing_more : (ring : Ring) (B N : List (List Term)) (units : ℕ) → products
 nothing_more ring B [] units = refl
 nothing_more ring B (n ∷ N) units = refl
 
-pub no_factors : (ring : Ring) (B : List (List Term)) (q : List Term) (units : ℕ) → products_remainder ring B [] q units ≡ ended q units
-no_factors ring B [] units = refl
-no_factors ring B (x ∷ q) units = refl
+pub zero_stays : (ring : Ring) (B N M : List (List Term)) (q : List Term) (units : ℕ) → q ≡ []
+    → products_remainder ring B M q units ≡ products_remainder ring B N q units
+zero_stays ring B N M q units e =
+    subst (λ f. products_remainder ring B M f units ≡ products_remainder ring B N f units)
+    (sym e) (nothing_more ring B M units ∙ sym (nothing_more ring B N units))
 
-pub zero_stays : (ring : Ring) (B N M : List (List Term)) (q : List Term) (units : ℕ) → q ≡ [] → products_remainder ring B M q units ≡ products_remainder ring B N q units
-zero_stays ring B N M q units e = subst (λ f. products_remainder ring B M f units ≡ products_remainder ring B N f units) (sym e) (nothing_more ring B M units ∙ sym (nothing_more ring B N units))
-
-one_factor : (ring : Ring) (B N : List (List Term)) (q n : List Term) (units : ℕ) → ¬ (q ≡ []) → products_remainder ring B (n ∷ N) q units ≡ followed (product_remainder ring B q n units) (products_remainder ring B N)
+one_factor : (ring : Ring) (B N : List (List Term)) (q n : List Term) (units : ℕ) → ¬ (q ≡ [])
+    → products_remainder ring B (n ∷ N) q units ≡ followed (product_remainder ring B q n units) (products_remainder ring B N)
 one_factor ring B N [] n units some = absurd (some refl)
 one_factor ring B N (x ∷ q) n units some = refl
 
 module _ (ring : Ring) (B N : List (List Term)) (i : ℕ) (n q : List Term) (units : ℕ) (get : slice_get N i ≡ Some n) (some : ¬ (q ≡ [])) where
-  factor_is : (run : Ending (List Term)) → product_remainder ring B q n units ≡ run → products_remainder ring B (drop i N) q units ≡ followed run (products_remainder ring B (drop (i + 1) N))
+  factor_is : (run : Ending (List Term)) → product_remainder ring B q n units ≡ run
+      → products_remainder ring B (drop i N) q units ≡ followed run (products_remainder ring B (drop (i + 1) N))
   factor_is run e =
-      ap (λ L. products_remainder ring B L q units) (drop_at N i n get) ∙ (one_factor ring B (drop (i + 1) N) q n units some ∙ ap (λ k. followed k (products_remainder ring B (drop (i + 1) N))) e)
+      ap (λ L. products_remainder ring B L q units) (drop_at N i n get)
+      ∙ (one_factor ring B (drop (i + 1) N) q n units some ∙ ap (λ k. followed k (products_remainder ring B (drop (i + 1) N))) e)
 
-  pub factor_ended : (r : List Term) (left : ℕ) → product_remainder ring B q n units ≡ ended r left → products_remainder ring B (drop (i + 1) N) r left ≡ products_remainder ring B (drop i N) q units
+  pub factor_ended : (r : List Term) (left : ℕ) → product_remainder ring B q n units ≡ ended r left
+      → products_remainder ring B (drop (i + 1) N) r left ≡ products_remainder ring B (drop i N) q units
   factor_ended r left e = sym (factor_is (ended r left) e)
 
   pub factor_unpaid : (left : ℕ) → product_remainder ring B q n units ≡ out_of_budget left → products_remainder ring B (drop i N) q units ≡ out_of_budget left

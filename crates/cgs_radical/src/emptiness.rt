@@ -1,8 +1,8 @@
 //! The emptiness run.
 
-ghost use Rattle.std.specs.Prelude.{ℕ, ◌≡◌, ◌<◌, ◌≤◌, ◌↔◌, List, [], ◌∷◌, length, replicate, slice_index_or, IsTrue, IfOk, OnOk, IsErrOf};
+ghost use Rattle.std.specs.Prelude.{ℕ, ◌≡◌, ◌<◌, ◌≤◌, ◌↔◌, List, [], ◌∷◌, replicate, IsTrue, IfOk, OnOk, IsErrOf};
 ghost use Rattle.std.specs.List.{AllByRecursion};
-ghost use Rattle.cgs_poly.specs.Polynomial.{one, IsRing, IsPoly, HasLowDegrees, term, places};
+ghost use Rattle.cgs_poly.specs.Polynomial.{one, IsRing, IsPoly, HasLowDegrees, term, places, ArePolys};
 ghost use Rattle.cgs_poly.specs.Product.{multiple};
 ghost use Rattle.cgs_poly.specs.Parameters.{IsCondition};
 ghost use Rattle.cgs_point.specs.Points.{IsPoint};
@@ -68,7 +68,7 @@ fn lifted(alloc: Global, ring: &Ring, above: &Ring, list: &PolyList) -> Result<P
     requires above { above.now ≡ y_ring ring.now }
     requires conditions { AllByRecursion (IsCondition ring.now) list.now }
     ensures ok { IfOk result (λ polys. polys ≡ with_y ring.now list.now) }
-    ensures polys { IfOk result (λ polys. AllByRecursion (IsPoly above.now) polys) }
+    ensures polys { IfOk result (λ polys. ArePolys above.now polys) }
 {
     let mut polys = PolyList::new(alloc);
     for i in 0..list.len() {
@@ -101,7 +101,7 @@ fn contradicts(
 ) -> Result<bool, Stop>
     requires ring { IsRing ring.now }
     requires one_variable { ring.now.variables ≡ 1 }
-    requires basis { (i : ℕ) → i < length basis → IsPoly ring.now (slice_index_or basis i []) }
+    requires basis { ArePolys ring.now basis }
     requires poly { IsPoly ring.now q.now }
     ensures ok { IfOk result (λ empty. contradiction_run buchberger ring.now basis q.now fuel.old ≡ ended empty fuel.new) }
     ensures budget { IsErrOf result Stop.Budget → contradiction_run buchberger ring.now basis q.now fuel.old ≡ out_of_budget fuel.new }
@@ -123,7 +123,7 @@ fn contradicts(
 pub fn one_alone(alloc: Global, ring: &Ring) -> Result<PolyList, AllocError>
     requires { IsRing ring.now }
     ensures ok { IfOk result (λ list. list ≡ one ring.now ∷ []) }
-    ensures polys { IfOk result (λ list. AllByRecursion (IsPoly ring.now) list) }
+    ensures polys { IfOk result (λ list. ArePolys ring.now list) }
 {
     let mut list = PolyList::new(alloc);
     list.push(Poly::one(alloc, ring)?)?;

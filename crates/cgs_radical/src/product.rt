@@ -1,8 +1,7 @@
 //! The product of the polynomials that must not be 0, reduced by a basis after each factor.
 
-ghost use Rattle.std.specs.Prelude.{ℕ, ◌≡◌, ◌<◌, ◌≤◌, ◌-◌, ◌*◌, [], max, length, slice_index_or, IfOk, IfErr, OnOk, OnErr, IsErrOf};
-ghost use Rattle.std.specs.List.{AllByRecursion};
-ghost use Rattle.cgs_poly.specs.Polynomial.{IsRing, IsPoly};
+ghost use Rattle.std.specs.Prelude.{◌≡◌, ◌<◌, ◌≤◌, ◌-◌, ◌*◌, max, IfOk, IfErr, OnOk, OnErr, IsErrOf};
+ghost use Rattle.cgs_poly.specs.Polynomial.{IsRing, IsPoly, ArePolys};
 ghost use Rattle.cgs_algebra.specs.Groebner.{AreMonic};
 ghost use Rattle.cgs_radical.specs.EmptinessRun.{ended, out_of_budget, out_of_degree, product_remainder, products_remainder};
 
@@ -22,7 +21,7 @@ pub(crate) fn product_remainder(
 ) -> Result<Poly, Stop>
     requires ring { IsRing ring.now }
     requires monic { AreMonic ring.now basis.now }
-    requires basis { (i : ℕ) → i < length basis.now → IsPoly ring.now (slice_index_or basis.now i []) }
+    requires basis { ArePolys ring.now basis.now }
     requires first { IsPoly ring.now q.now }
     requires second { IsPoly ring.now n.now }
     ensures ok { IfOk result (λ r. product_remainder ring.now basis.now q.now n.now fuel.old ≡ ended r fuel.new) }
@@ -48,8 +47,8 @@ pub(crate) fn products_remainder(
 ) -> Result<Poly, Stop>
     requires ring { IsRing ring.now }
     requires monic { AreMonic ring.now basis.now }
-    requires basis { (i : ℕ) → i < length basis.now → IsPoly ring.now (slice_index_or basis.now i []) }
-    requires factors { AllByRecursion (IsPoly ring.now) factors.now }
+    requires basis { ArePolys ring.now basis.now }
+    requires factors { ArePolys ring.now factors.now }
     requires start { IsPoly ring.now start }
     ensures ok { IfOk result (λ r. products_remainder ring.now basis.now factors.now start fuel.old ≡ ended r fuel.new) }
     ensures poly { IfOk result (λ r. IsPoly ring.now r) }

@@ -4,7 +4,7 @@ use Rattle.std.specs.List.{AllByRecursion}
 use Rattle.std.specs.Prelude.{slice_get}
 use Rattle.std.proofs.lemmas.List.{append_assoc}
 use Rattle.cgs_poly.specs.declared.ring.Ring.{Ring}
-use Rattle.cgs_poly.specs.Polynomial.{Term, IsRing, IsPoly, one}
+use Rattle.cgs_poly.specs.Polynomial.{Term, IsRing, one, ArePolys}
 use Rattle.cgs_algebra.specs.Stability.{parametric_members, other_members}
 use Rattle.cgs_poly.specs.Parameters.{IsCondition}
 use Rattle.cgs_entry.specs.Conditions.{with_member}
@@ -38,13 +38,13 @@ module _ (ring : Ring) (branch : Case) (i : ℕ) (all longer : List Case) (child
 
 -- the parts of a basis G of a branch, as its code finds them: K without variables, and O with them
 
-module _ (inside branch : Case) (view : inside ≡ branch) (r : IsRing inside.ring) (G : List (List Term)) (h : AllByRecursion (IsPoly branch.ring) G) where
-  basis_polys : AllByRecursion (IsPoly inside.ring) G
-  basis_polys = subst (λ ring. AllByRecursion (IsPoly ring) G) (sym (ap (λ (k : Case). k.ring) view)) h
+module _ (inside branch : Case) (view : inside ≡ branch) (r : IsRing inside.ring) (G : List (List Term)) (h : ArePolys branch.ring G) where
+  basis_polys : ArePolys inside.ring G
+  basis_polys = subst (λ ring. ArePolys ring G) (sym (ap (λ (k : Case). k.ring) view)) h
 
   pub parametric_kept : (K : List (List Term)) → K ≡ parametric_members inside.ring G → AllByRecursion (IsCondition inside.ring) K
   parametric_kept K k = subst (λ L. AllByRecursion (IsCondition inside.ring) L) (sym k) (parametric_conditions inside.ring r G basis_polys)
 
   module _ (O : List (List Term)) (o : O ≡ other_members inside.ring G) where
-    pub others_kept : AllByRecursion (IsPoly inside.ring) O
-    others_kept = subst (λ L. AllByRecursion (IsPoly inside.ring) L) (sym o) (other_polys inside.ring r G basis_polys)
+    pub others_kept : ArePolys inside.ring O
+    others_kept = subst (λ L. ArePolys inside.ring L) (sym o) (other_polys inside.ring r G basis_polys)

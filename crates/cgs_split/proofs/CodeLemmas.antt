@@ -2,12 +2,12 @@
 use Rattle.std.proofs.Common.{ℕ, ◌≡◌, Bool, true, false, cond, None, Result, List, refl, sym, ap, ◌∙◌, subst}
 use Rattle.std.specs.Prelude.{IfOk}
 use Rattle.std.proofs.lemmas.Result.{IfOk-weaker}
+use Rattle.cgs_list.proofs.ListLemmas.{all_weaker}
 use Rattle.cgs_poly.specs.Polynomial.{IsPoly, IsCanonical, Term}
 use Rattle.cgs_radical.proofs.TestLemmas.{conditions_parametric}
 use Rattle.cgs_split.specs.Cases.{IsPrepared, Case}
 use Rattle.cgs_split.specs.Soundness.{IsBranch, IsGood}
 use Rattle.cgs_split.specs.Trees.{own_entries, IsSoundNode}
-use Rattle.cgs_split.proofs.IdealLemmas.{each_map}
 use Rattle.cgs_split.proofs.TreeLemmas.{node_sound}
 use Rattle.cgs_split.proofs.NodeRunLemmas.{node_is_node}
 use Rattle.cgs_algebra.specs.Stability.{other_members}
@@ -51,7 +51,7 @@ prepared_branch branch p = record {
   of = refl;
   zero = conditions_parametric branch.ring branch.zero p.zero;
   nonzero = conditions_parametric branch.ring branch.nonzero p.nonzero;
-  polys = each_map (IsPoly branch.ring) (IsCanonical branch.ring) branch.polys p.polys (λ f h. h.canonical);
+  polys = all_weaker (IsPoly branch.ring) (IsCanonical branch.ring) branch.polys p.polys (λ f h. h.canonical);
 }
 
 module _ (branch inside : Case) (path : List ℕ) (view : inside ≡ branch) (kept : IsPrepared inside.ring inside.zero inside.nonzero inside.polys) where

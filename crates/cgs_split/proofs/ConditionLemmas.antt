@@ -3,6 +3,7 @@ use Rattle.std.proofs.Common.{ℕ, ◌≡◌, ◌*◌, ◌%◌, ◌⊎◌, inl, 
 use Rattle.std.proofs.Math.Nat.{zero-mod, mul-zero}
 use Rattle.std.proofs.lemmas.Bool.{eqb-true, eqb-false, ne_eqb, and_parts}
 use Rattle.std.specs.List.{AllByRecursion}
+use Rattle.cgs_list.proofs.ListLemmas.{all_append}
 use Rattle.cgs_field.specs.Prime.{IsField}
 use Rattle.cgs_field.proofs.ModularLemmas.{mod_mul}
 use Rattle.cgs_poly.specs.declared.ring.Ring.{Ring}
@@ -36,9 +37,9 @@ zero_together m n h k = by_test (m == 0) refl
     by_test false e = e ∙ sym (ne_eqb n 0 (λ z. eqb-false m 0 e (k z)))
 
 module _ (ring : Ring) (a : List ℕ) where
-  all_append : (L K : List (List Term)) → all_vanish ring a (L ++ K) ≡ (all_vanish ring a L && all_vanish ring a K)
-  all_append [] K = refl
-  all_append (f ∷ L) K = ap (λ b. (value_at ring a f == 0) && b) (all_append L K)
+  vanish_append : (L K : List (List Term)) → all_vanish ring a (L ++ K) ≡ (all_vanish ring a L && all_vanish ring a K)
+  vanish_append [] K = refl
+  vanish_append (f ∷ L) K = ap (λ b. (value_at ring a f == 0) && b) (vanish_append L K)
       ∙ sym (and_assoc (value_at ring a f == 0) (all_vanish ring a L) (all_vanish ring a K))
 
   none_append : (L K : List (List Term)) → none_vanishes ring a (L ++ K) ≡ (none_vanishes ring a L && none_vanishes ring a K)
@@ -82,7 +83,7 @@ module _ (ring : Ring) (a : List ℕ) where
 
   -- a monic multiple vanishes where the polynomial does
 
-  pub value_monic : (f : List Term) → IsField ring.modulus → IsCanonical ring f → (value_at ring a (monic_of ring f) == 0) ≡ (value_at ring a f == 0)
+  value_monic : (f : List Term) → IsField ring.modulus → IsCanonical ring f → (value_at ring a (monic_of ring f) == 0) ≡ (value_at ring a f == 0)
   value_monic f field h =
       let p : ℕ = ring.modulus in
       let u : IsUnitMultiple ring f (monic_of ring f) = monic_unit ring f field h in
@@ -104,7 +105,7 @@ module _ (ring : Ring) (a : List ℕ) where
         by_test : (b : Bool) → is_among (monic_of ring f) L ≡ b
             → all_vanish ring a (cond b L (L ++ monic_of ring f ∷ [])) ≡ (all_vanish ring a L && (value_at ring a f == 0))
         by_test true e = sym (ap (λ b. all_vanish ring a L && b) (sym (value_monic f field h)) ∙ all_has (monic_of ring f) L e)
-        by_test false e = all_append L (monic_of ring f ∷ [])
+        by_test false e = vanish_append L (monic_of ring f ∷ [])
             ∙ ap (λ b. all_vanish ring a L && b) (and_true (value_at ring a (monic_of ring f) == 0) ∙ value_monic f field h)
 
     pub none_with : (L : List (List Term)) (f : List Term) → IsCanonical ring f
@@ -161,17 +162,13 @@ module _ (ring : Ring) (a : List ℕ) where
 
 -- what holds of each
 
-pub each_append : {X : Type 0} (P : X → Type 0) (L K : List X) → AllByRecursion P L → AllByRecursion P K → AllByRecursion P (L ++ K)
-each_append P [] K h k = k
-each_append P (f ∷ L) K h k = (h.0, each_append P L K h.1 k)
-
 pub each_with : (ring : Ring) (P : List Term → Type 0) (L : List (List Term)) (f : List Term) → AllByRecursion P L → P (monic_of ring f)
     → AllByRecursion P (with_member ring L f)
 each_with ring P L f h k = by_test (is_among (monic_of ring f) L)
   where
     by_test : (b : Bool) → AllByRecursion P (cond b L (L ++ monic_of ring f ∷ []))
     by_test true = h
-    by_test false = each_append P L (monic_of ring f ∷ []) h (k, tt)
+    by_test false = all_append P L (monic_of ring f ∷ []) h (k, tt)
 
 pub each_with_all : (ring : Ring) (P : List Term → Type 0) (L K : List (List Term)) → AllByRecursion P L → AllByRecursion (λ f. P (monic_of ring f)) K
     → AllByRecursion P (with_members ring L K)

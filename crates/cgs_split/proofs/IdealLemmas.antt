@@ -1,33 +1,35 @@
 -- At each point of a child's region the child's polynomials generate the ideal of the branch's.
-use Rattle.std.proofs.Common.{ℕ, zero, suc, ◌≡◌, ◌+◌, ◌*◌, ◌%◌, ◌<◌, Bool, true, false, List, [], ◌∷◌, ◌++◌, length, get_or, map, replicate, refl, sym, ap, ◌∙◌, subst, arith}
+use Rattle.std.proofs.Common.{ℕ, zero, suc, ◌≡◌, ◌+◌, ◌*◌, ◌%◌, ◌<◌, Bool, true, false, List, [], ◌∷◌, ◌++◌, length, get_or, map, replicate, refl, sym, ap, ◌∙◌}
+use Rattle.std.proofs.Common.{subst, arith}
 use Rattle.std.proofs.Math.Nat.{mul-one, mod-eq_of_lt}
 use Rattle.std.proofs.lemmas.List.{length-append, length-map, get_or_append_left, get_or-append-add, get_or_default}
 use Rattle.std.proofs.lemmas.List.Elements.{All-from_recursion, recursion_from_All}
 use Rattle.std.specs.List.{AllByRecursion}
+use Rattle.cgs_list.proofs.ListLemmas.{all_append, all_weaker}
 use Rattle.cgs_field.specs.Prime.{IsField}
 use Rattle.cgs_field.proofs.ModularLemmas.{mod_mul}
 use Rattle.cgs_poly.specs.declared.ring.Ring.{Ring}
 use Rattle.cgs_poly.specs.Polynomial.{one, Term, total, IsOfRing, IsCanonical}
 use Rattle.cgs_poly.specs.Parameters.{has_no_variables, HasNoVariables, value_at, lc_x, variables_ring, specialised_terms, specialised}
 use Rattle.cgs_poly.proofs.CanonicalLemmas.{canonical_of_ring, is_canonical}
-use Rattle.cgs_algebra.specs.Combination.{IsMember}
+use Rattle.cgs_algebra.specs.Combination.{IsMember, SameIdeal}
 use Rattle.cgs_algebra.specs.Groebner.{IsMinimal}
 use Rattle.cgs_algebra.specs.Specialisation.{specialised_list, IsParametric, AllVanish, NoneVanishes}
-use Rattle.cgs_algebra.specs.Stability.{parametric_members, other_members, SameIdeal}
+use Rattle.cgs_algebra.specs.Stability.{parametric_members, other_members}
 use Rattle.cgs_algebra.proofs.MemberLemmas.{same_member, scaled_member, generator_member, member_of_members}
-use Rattle.cgs_algebra.proofs.PointLemmas.{at_point, power_weight, total_specialised, specialised_of_ring, get_specialised}
+use Rattle.cgs_algebra.proofs.PointLemmas.{power_weight, total_specialised, get_specialised}
 use Rattle.cgs_algebra.proofs.VanishingLemmas.{free_vanishes, free_total}
 use Rattle.cgs_algebra.proofs.SpecialisedIdealLemmas.{specialised_member}
 use Rattle.cgs_algebra.proofs.SpecialisationLemmas.{canonical_at, of_ring_at}
 use Rattle.cgs_poly.proofs.ParameterLemmas.{tested_free, free_tested}
 use Rattle.cgs_poly.proofs.OneLemmas.{one_canonical}
+use Rattle.cgs_poly.proofs.SpecialisedLemmas.{at_point, specialised_of_ring}
 use Rattle.cgs_algebra.proofs.DicksonLemmas.{FoundIn, found_other, found_parametric, other_found, parametric_each, other_each}
 use Rattle.cgs_algebra.proofs.GenerationLemmas.{basis_generates}
 use Rattle.cgs_algebra.proofs.OneLemmas.{all_members}
 use Rattle.cgs_algebra.proofs.SpecialisedBasisLemmas.{second_all, specialised_basis}
 use Rattle.cgs_split.specs.Cases.{Case}
 use Rattle.cgs_split.specs.Soundness.{IsBranch, HasBasis, SameIdealAt}
-use Rattle.cgs_split.proofs.ConditionLemmas.{each_append}
 use Rattle.cgs_split.proofs.OneLemmas.{one_special, one_special_total}
 
 -- lists
@@ -38,14 +40,10 @@ each_of P F h = recursion_from_All P F (λ i d l. subst P (get_or_default F i []
 pub each_at : (P : List Term → Type 0) (F : List (List Term)) → AllByRecursion P F → (i : ℕ) → i < length F → P (get_or F i [])
 each_at P F h i l = All-from_recursion P F h i [] l
 
-pub each_map : (P Q : List Term → Type 0) (F : List (List Term)) → AllByRecursion P F → ((f : List Term) → P f → Q f) → AllByRecursion Q F
-each_map P Q [] h k = tt
-each_map P Q (f ∷ F) h k = (k f h.0, each_map P Q F h.1 k)
-
 -- ideals
 
 -- an ideal at a place of a list that holds the generator
-pub found_member : (ring : Ring) (F : List (List Term)) (g : List Term) → 0 < ring.modulus → IsOfRing ring g → FoundIn F g → IsMember ring F g
+found_member : (ring : Ring) (F : List (List Term)) (g : List Term) → 0 < ring.modulus → IsOfRing ring g → FoundIn F g → IsMember ring F g
 found_member ring F g pos h i = subst (λ f. IsMember ring F f) i.2 (generator_member ring F pos i.0 i.1 (subst (λ f. IsOfRing ring f) (sym i.2) h))
 
 module _ (ring : Ring) (a : List ℕ) (pos : 0 < ring.modulus) where
@@ -93,15 +91,15 @@ module _ (ring : Ring) (a : List ℕ) (field : IsField ring.modulus) (branch : C
   E = branch.zero
 
   generators_ok : AllByRecursion (IsCanonical ring) (F ++ E)
-  generators_ok = each_append (IsCanonical ring) F E ok.polys (each_map (IsParametric ring) (IsCanonical ring) E ok.zero (λ f p. p.canonical))
+  generators_ok = all_append (IsCanonical ring) F E ok.polys (all_weaker (IsParametric ring) (IsCanonical ring) E ok.zero (λ f p. p.canonical))
 
-  pub basis_ok : AllByRecursion (IsCanonical ring) G
+  basis_ok : AllByRecursion (IsCanonical ring) G
   basis_ok = each_of (IsCanonical ring) G basis.monic.canonical
 
   -- the members of G in the parameters alone, and the others
   pub parts_ok : AllByRecursion (IsParametric ring) (parametric_members ring G) × AllByRecursion (IsCanonical ring) (other_members ring G)
   parts_ok = (
-    each_map (λ g. IsCanonical ring g × HasNoVariables ring g) (IsParametric ring) (parametric_members ring G)
+    all_weaker (λ g. IsCanonical ring g × HasNoVariables ring g) (IsParametric ring) (parametric_members ring G)
         (parametric_each ring (IsCanonical ring) G basis_ok) (λ g p. record { canonical = p.0; free = p.1 }),
     other_each ring (IsCanonical ring) G basis_ok,
   )
@@ -171,13 +169,14 @@ module _ (ring : Ring) (a : List ℕ) (field : IsField ring.modulus) (branch : C
 
       pub dickson_same : SameIdealAt ring a M F
       dickson_same =
-          basis_generates (variables_ring ring) (specialised_list ring a F) (specialised_list ring a M) field (specials_canonical ring a pos F ok.polys) dickson_minimal.groebner
+          basis_generates (variables_ring ring) (specialised_list ring a F) (specialised_list ring a M)
+          field (specials_canonical ring a pos F ok.polys) dickson_minimal.groebner
 
   -- a member of G in the parameters alone that is not 0 at the point
   module _ (zeros : AllVanish ring a E) (g : List Term) (parametric : IsParametric ring g) (inside : IsMember ring (F ++ E) g)
       (some : ¬ (value_at ring a g ≡ 0)) where
     -- where a member in the parameters alone does not vanish, 1 is a member of the ideal
-    pub one_at_point : IsMember (variables_ring ring) (specialised_list ring a F) (specialised ring a (one ring))
+    one_at_point : IsMember (variables_ring ring) (specialised_list ring a F) (specialised ring a (one ring))
     one_at_point =
         let p : ℕ = ring.modulus in
         let g_ring : IsOfRing ring g = canonical_of_ring ring g parametric.canonical in

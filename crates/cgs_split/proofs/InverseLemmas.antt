@@ -5,7 +5,7 @@ use Rattle.cgs_field.specs.Prime.{IsField}
 use Rattle.cgs_field.proofs.ModularLemmas.{mod_mul}
 use Rattle.cgs_poly.specs.declared.ring.Ring.{Ring}
 use Rattle.cgs_poly.specs.Polynomial.{Term, total, IsCanonical}
-use Rattle.cgs_poly.specs.Product.{scaled, lead_coefficient}
+use Rattle.cgs_poly.specs.Product.{scaled, leading_coefficient}
 use Rattle.cgs_field.specs.Inverse.{inverse}
 use Rattle.cgs_poly.specs.Monic.{monic_of}
 use Rattle.cgs_poly.proofs.SumLemmas.{total_scaled}
@@ -23,14 +23,14 @@ pub record IsUnitMultiple (ring : Ring) (f g : List Term) : Type 0 where
 pub monic_canonical : (ring : Ring) (f : List Term) → 0 < ring.modulus → IsCanonical ring f → IsCanonical ring (monic_of ring f)
 unfolding monic_of
 monic_canonical ring f pos h =
-    is_canonical ring (scaled (inverse ring.modulus (lead_coefficient f)) f) pos
-    (scaled_of_ring ring (inverse ring.modulus (lead_coefficient f)) f (canonical_of_ring ring f h))
+    is_canonical ring (scaled (inverse ring.modulus (leading_coefficient f)) f) pos
+    (scaled_of_ring ring (inverse ring.modulus (leading_coefficient f)) f (canonical_of_ring ring f h))
 
-pub monic_total : (ring : Ring) (f : List Term) (w : List ℕ → ℕ) → 0 < ring.modulus → IsCanonical ring f
-    → total w (monic_of ring f) % ring.modulus ≡ (inverse ring.modulus (lead_coefficient f) * total w f) % ring.modulus
+monic_total : (ring : Ring) (f : List Term) (w : List ℕ → ℕ) → 0 < ring.modulus → IsCanonical ring f
+    → total w (monic_of ring f) % ring.modulus ≡ (inverse ring.modulus (leading_coefficient f) * total w f) % ring.modulus
 unfolding monic_of
 monic_total ring f w pos h =
-    let c : ℕ = inverse ring.modulus (lead_coefficient f) in
+    let c : ℕ = inverse ring.modulus (leading_coefficient f) in
     (canonical_alike ring (scaled c f) pos (scaled_of_ring ring c f (canonical_of_ring ring f h))).under w ∙ ap (λ n. n % ring.modulus) (total_scaled w c f)
 
 -- a polynomial made monic is it times a number that is not 0

@@ -2,6 +2,7 @@
 use Rattle.std.proofs.Common.{ℕ, ◌≡◌, ◌<◌, inl, inr, Bool, true, false, cond, not, ◌==◌, List, [], ◌∷◌, ◌++◌, map, filter, refl, sym, ◌∙◌, subst, arith}
 use Rattle.std.proofs.lemmas.Bool.{and_parts}
 use Rattle.std.specs.List.{AllByRecursion}
+use Rattle.cgs_list.proofs.ListLemmas.{all_weaker}
 use Rattle.cgs_field.specs.Prime.{IsField}
 use Rattle.cgs_field.proofs.PrimeLemmas.{modulus_field}
 use Rattle.cgs_poly.specs.declared.ring.Ring.{Ring}
@@ -29,7 +30,7 @@ use Rattle.cgs_split.proofs.ConditionLemmas.{all_with, none_with, none_with_all,
 use Rattle.cgs_split.proofs.PartitionLemmas.{children_count}
 use Rattle.cgs_algebra.proofs.SameIdealLemmas.{same_ideal_back, minimal_of_same}
 use Rattle.cgs_split.proofs.OneLemmas.{one_basis}
-use Rattle.cgs_split.proofs.IdealLemmas.{each_of, each_map, specials_canonical, parts_ok, conditions_vanish, others_same, dickson_minimal, dickson_same, one_same}
+use Rattle.cgs_split.proofs.IdealLemmas.{each_of, specials_canonical, parts_ok, conditions_vanish, others_same, dickson_minimal, dickson_same, one_same}
 
 -- conditions in the parameters alone
 
@@ -98,11 +99,11 @@ module _ (ring : Ring) (r : IsRing ring) (branch : Case) (ok : IsBranch ring bra
 
   H_ok : AllByRecursion (IsParametric ring) (coefficient_list ring M)
   H_ok = each_with_all ring (IsParametric ring) [] (nonconstant (map (lc_x ring) M)) tt
-      (each_map (IsParametric ring) (λ f. IsParametric ring (monic_of ring f)) (nonconstant (map (lc_x ring) M)) coefficients_ok
+      (all_weaker (IsParametric ring) (λ f. IsParametric ring (monic_of ring f)) (nonconstant (map (lc_x ring) M)) coefficients_ok
       (λ f p. monic_parametric ring f pos p))
 
   canonical_each : (L : List (List Term)) → AllByRecursion (IsParametric ring) L → AllByRecursion (IsCanonical ring) L
-  canonical_each L h = each_map (IsParametric ring) (IsCanonical ring) L h (λ f p. p.canonical)
+  canonical_each L h = all_weaker (IsParametric ring) (IsCanonical ring) L h (λ f p. p.canonical)
 
   Z_ok : AllByRecursion (IsParametric ring) Z
   Z_ok = (parts_ok ring [] field branch ok G M basis).0
@@ -176,13 +177,14 @@ module _ (ring : Ring) (r : IsRing ring) (branch : Case) (ok : IsBranch ring bra
       of = ok.of;
       zero = Z_ok;
       nonzero = each_with_all ring (IsParametric ring) branch.nonzero (coefficient_list ring M) ok.nonzero
-          (each_map (IsParametric ring) (λ f. IsParametric ring (monic_of ring f)) (coefficient_list ring M) H_ok (λ f p. monic_parametric ring f pos p));
+          (all_weaker (IsParametric ring) (λ f. IsParametric ring (monic_of ring f)) (coefficient_list ring M) H_ok (λ f p. monic_parametric ring f pos p));
       polys = dickson_ok;
     };
     good = inr (λ a h.
         let l : NoneVanishes ring a (map (lc_x ring) M) = main_leading a h.stand in
         let s : SameIdealAt ring a M branch.polys = dickson_same ring a field branch ok G M basis h.vanish l in
-        basis_of_same ring a branch.polys M M (same_ideal_back (variables_ring ring) _ _ s) (record { leading = l; minimal = dickson_minimal ring a field branch ok G M basis h.vanish l }));
+        basis_of_same ring a branch.polys M M (same_ideal_back (variables_ring ring) _ _ s)
+        (record { leading = l; minimal = dickson_minimal ring a field branch ok G M basis h.vanish l }));
     ideal = λ a h. dickson_same ring a field branch ok G M basis h.vanish (main_leading a h.stand);
   }
 
@@ -200,7 +202,7 @@ module _ (ring : Ring) (r : IsRing ring) (branch : Case) (ok : IsBranch ring bra
     where
       units_inside : AllByRecursion (λ g. IsParametric ring g × IsMember ring (branch.polys ++ branch.zero) g) Z
       units_inside =
-          each_map (λ g. (IsCanonical ring g × IsMember ring (branch.polys ++ branch.zero) g) × HasNoVariables ring g)
+          all_weaker (λ g. (IsCanonical ring g × IsMember ring (branch.polys ++ branch.zero) g) × HasNoVariables ring g)
           (λ g. IsParametric ring g × IsMember ring (branch.polys ++ branch.zero) g) Z
           (parametric_each ring (λ g. IsCanonical ring g × IsMember ring (branch.polys ++ branch.zero) g) G
           (each_of _ G (λ i l. (basis.monic.canonical i l, basis.groebner.members i l))))

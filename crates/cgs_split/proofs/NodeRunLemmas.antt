@@ -2,6 +2,7 @@
 use Rattle.std.proofs.Common.{ℕ, ◌≡◌, Bool, true, false, cond, not, nat_lt, None, List, [], ◌∷◌, ◌++◌, length, filter, refl, sym, ap, subst}
 use Rattle.std.specs.List.{AllByRecursion}
 use Rattle.std.proofs.lemmas.Slice.Eq.{slice_eq-Decides}
+use Rattle.cgs_list.proofs.ListLemmas.{all_append, all_weaker}
 use Rattle.cgs_poly.specs.declared.ring.Ring.{Ring}
 use Rattle.cgs_poly.specs.Polynomial.{one, Term, IsRing, IsCanonical}
 use Rattle.cgs_poly.proofs.SameLemmas.{same_poly_decides}
@@ -28,8 +29,8 @@ use Rattle.cgs_split.specs.Nodes.{is_point_of, children_of}
 use Rattle.cgs_split.specs.Soundness.{IsBranch}
 use Rattle.cgs_split.specs.Trees.{entry_of, IsNode, empty, refused, solved, whole, divided, HasNoPoint, own_entries}
 use Rattle.cgs_split.specs.NodeRun.{Node, settled, by_kind, is_too_deep, after_basis, after_emptiness, node_of}
-use Rattle.cgs_split.proofs.ConditionLemmas.{region_told, each_append}
-use Rattle.cgs_split.proofs.IdealLemmas.{each_of, each_at, each_map}
+use Rattle.cgs_split.proofs.ConditionLemmas.{region_told}
+use Rattle.cgs_split.proofs.IdealLemmas.{each_of, each_at}
 
 -- kinds
 
@@ -58,8 +59,8 @@ module _ (branch : Case) (path : List ℕ) (r : IsRing branch.ring) (ok : IsBran
   IsOne node = IsNode branch.ring branch path (own_entries node.0) node.1
 
   generators_ok : AllByRecursion (IsCanonical branch.ring) (branch.polys ++ branch.zero)
-  generators_ok = each_append (IsCanonical branch.ring) branch.polys branch.zero ok.polys
-      (each_map (IsParametric branch.ring) (IsCanonical branch.ring) branch.zero ok.zero (λ f p. p.canonical))
+  generators_ok = all_append (IsCanonical branch.ring) branch.polys branch.zero ok.polys
+      (all_weaker (IsParametric branch.ring) (IsCanonical branch.ring) branch.zero ok.zero (λ f p. p.canonical))
 
   -- a run that found the region empty
   no_point : (units : ℕ) → emptiness_run branch.ring branch.zero branch.nonzero branch.limits.budget ≡ ended true units → HasNoPoint branch.ring branch

@@ -2,8 +2,9 @@
 use Rattle.std.proofs.Common.{ℕ, zero, suc, ◌≡◌, ◌+◌, Bool, true, false, cond, Option, Some, None, List, [], ◌∷◌, ◌++◌, map, refl, sym, subst}
 use Rattle.std.specs.Prelude.{IfSome}
 use Rattle.std.specs.List.{AllByRecursion}
+use Rattle.cgs_list.proofs.ListLemmas.{all_append}
 use Rattle.cgs_poly.specs.declared.ring.Ring.{Ring}
-use Rattle.cgs_poly.specs.Polynomial.{Term, IsPoly, one}
+use Rattle.cgs_poly.specs.Polynomial.{Term, IsPoly, one, ArePolys}
 use Rattle.cgs_algebra.specs.Stability.{parametric_members, other_members}
 use Rattle.cgs_divide.specs.AutoreductionRun.{ListRun, done}
 use Rattle.cgs_divide.specs.AutoreductionRun as list
@@ -27,10 +28,9 @@ use Rattle.cgs_split.specs.Nodes.{unit_children, split_children, main_child, chi
 use Rattle.cgs_split.specs.NodeRun.{Node, settled, by_kind, is_too_deep, after_basis, without_test, with_points, after_emptiness, node_of, height_of}
 use Rattle.cgs_split.specs.Trees.{root_case}
 use Rattle.cgs_split.specs.Laws.{EntriesAreOfRing}
-use Rattle.cgs_split.proofs.ConditionLemmas.{each_append}
-use Rattle.cgs_split.proofs.IdealLemmas.{each_of, each_at}
 use Rattle.cgs_poly.proofs.OneLemmas.{one_poly}
-use Rattle.cgs_split.proofs.PreparedLemmas.{conditions_with, conditions_with_all, conditions_polys, parametric_conditions, other_polys, dickson_polys, coefficient_conditions}
+use Rattle.cgs_split.proofs.PreparedLemmas.{conditions_with, conditions_with_all, conditions_polys, parametric_conditions, other_polys, dickson_polys}
+use Rattle.cgs_split.proofs.PreparedLemmas.{coefficient_conditions}
 
 -- what a tree keeps from a branch to its children holds of all entries, if it holds of the entry of each node that keeps it
 
@@ -57,14 +57,14 @@ module _ {J E : Type 0} (node : J → List ℕ → Option E × List J) (Q : J �
       → (i : ℕ) (children : List J) → AllByRecursion Q children → AllByRecursion Holds (trees_from levels path i children)
   below_each levels path ih i [] h = tt
   below_each levels path ih i (child ∷ children) h =
-      each_append Holds (tree levels child (path ++ i ∷ [])) (trees_from levels path (i + 1) children) (ih child (path ++ i ∷ []) h.0)
+      all_append Holds (tree levels child (path ++ i ∷ [])) (trees_from levels path (i + 1) children) (ih child (path ++ i ∷ []) h.0)
       (below_each levels path ih (i + 1) children h.1)
 
   preorder_each : (levels : ℕ) (branch : J) (path : List ℕ) → Q branch → AllByRecursion Holds (tree levels branch path)
   preorder_each zero branch path h = tt
   preorder_each (suc levels) branch path h =
       let k = keeps branch path h in
-      each_append Holds (entry_of node branch path) (trees_from levels path 0 (node branch path).1) (own_each path (node branch path).0 k.0)
+      all_append Holds (entry_of node branch path) (trees_from levels path 0 (node branch path).1) (own_each path (node branch path).0 k.0)
       (below_each levels path (preorder_each levels) 0 (node branch path).1 k.1)
 
   tree_each : (height : J → List ℕ → ℕ) (branch : J) → Q branch → AllByRecursion P (map (λ found. found.1) (entries_of node height branch []))
@@ -88,16 +88,13 @@ module _ (branch : Case) (path : List ℕ) (h : IsPrepared branch.ring branch.ze
   abbrev own : Ring
   own = branch.ring
 
-  abbrev ArePolys : List (List Term) → Type 0
-  ArePolys F = AllByRecursion (IsPoly branch.ring) F
-
   abbrev AreConditions : List (List Term) → Type 0
   AreConditions E = AllByRecursion (IsCondition branch.ring) E
 
   abbrev AreCases : List Case → Type 0
   AreCases children = AllByRecursion (IsCase branch.ring) children
 
-  child_case : (kind : BranchKind) (E N F : List (List Term)) → AreConditions E → AreConditions N → ArePolys F
+  child_case : (kind : BranchKind) (E N F : List (List Term)) → AreConditions E → AreConditions N → ArePolys own F
       → IsCase own (case_like branch kind E N F)
   child_case kind E N F e n f = record { of = refl; prepared = record { valid = h.valid; zero = e; nonzero = n; polys = f } }
 
@@ -108,7 +105,7 @@ module _ (branch : Case) (path : List ℕ) (h : IsPrepared branch.ring branch.ze
     unit_cases (with_member own E g) N K (conditions_with own h.valid E g e k.0) n k.1,
   )
 
-  split_cases : (E N F H : List (List Term)) → AreConditions E → AreConditions N → ArePolys F → AreConditions H
+  split_cases : (E N F H : List (List Term)) → AreConditions E → AreConditions N → ArePolys own F → AreConditions H
       → AreCases (split_children own branch E N F H)
   split_cases E N F [] e n f k = tt
   split_cases E N F (c ∷ H) e n f k = (
@@ -116,7 +113,7 @@ module _ (branch : Case) (path : List ℕ) (h : IsPrepared branch.ring branch.ze
     split_cases E (with_member own N c) F H e (conditions_with own h.valid N c n k.0) f k.1,
   )
 
-  children_cases : (G M : List (List Term)) → ArePolys G → ArePolys M → AreCases (children_of own branch G M)
+  children_cases : (G M : List (List Term)) → ArePolys own G → ArePolys own M → AreCases (children_of own branch G M)
   children_cases G M g m =
       let E : List (List Term) = parametric_members own G in
       let H : List (List Term) = coefficient_list own M in
@@ -126,7 +123,7 @@ module _ (branch : Case) (path : List ℕ) (h : IsPrepared branch.ring branch.ze
       let n : AreConditions (with_members own branch.nonzero H) = conditions_with_all own h.valid branch.nonzero H h.nonzero k in
       let units : List Case = unit_children own branch branch.zero branch.nonzero E in
       let splits : List Case = split_children own branch E branch.nonzero F H in
-      each_append (IsCase own) units (main_child own branch G M ∷ splits) (unit_cases branch.zero branch.nonzero E h.zero h.nonzero e)
+      all_append (IsCase own) units (main_child own branch G M ∷ splits) (unit_cases branch.zero branch.nonzero E h.zero h.nonzero e)
       (child_case Main E (with_members own branch.nonzero H) M e n m, split_cases E branch.nonzero F H e h.nonzero (other_polys own h.valid G g) k)
 
   settled_over : (kind : EntryKind) → IsFound own kind → IsNodeOver own (settled branch path kind)
@@ -135,15 +132,15 @@ module _ (branch : Case) (path : List ℕ) (h : IsPrepared branch.ring branch.ze
   basis_over : (units : ℕ) (run : ListRun) → basis_run own (branch.polys ++ branch.zero) units ≡ run → IsNodeOver own (after_basis branch path run)
   basis_over units (done G left) e = by_one (is_one_alone own G)
     where
-      generators : ArePolys (branch.polys ++ branch.zero)
-      generators = each_append (IsPoly own) branch.polys branch.zero h.polys (conditions_polys own h.valid branch.zero h.zero)
+      generators : ArePolys own (branch.polys ++ branch.zero)
+      generators = all_append (IsPoly own) branch.polys branch.zero h.polys (conditions_polys own h.valid branch.zero h.zero)
 
-      basis : ArePolys G
+      basis : ArePolys own G
       basis =
           let F : List (List Term) = branch.polys ++ branch.zero in
-          each_of (IsPoly own) G (basis_polys own h.valid F G units left (each_at (IsPoly own) F generators) e)
+          basis_polys own h.valid F G units left generators e
 
-      others : ArePolys (other_members branch.ring G)
+      others : ArePolys own (other_members branch.ring G)
       others = other_polys own h.valid G basis
 
       by_one : (b : Bool)
@@ -184,7 +181,7 @@ module _ (branch : Case) (path : List ℕ) (h : IsPrepared branch.ring branch.ze
       by_depth true run = settled_over (Refused Depth) tt
       by_depth false run = emptiness_over run
 
-pub node_is_over : (ring : Ring) (branch : Case) (path : List ℕ) → IsCase ring branch → IsNodeOver ring (node_of branch path)
+node_is_over : (ring : Ring) (branch : Case) (path : List ℕ) → IsCase ring branch → IsNodeOver ring (node_of branch path)
 node_is_over ring branch path h =
     let prepared = subst (λ ring. IsPrepared ring branch.zero branch.nonzero branch.polys) (sym h.of) h.prepared in
     subst (λ ring. IsNodeOver ring (node_of branch path)) h.of (node_over branch path prepared)

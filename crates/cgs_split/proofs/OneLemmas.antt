@@ -6,8 +6,8 @@ use Rattle.cgs_exps.specs.Monomial.{divides}
 use Rattle.cgs_order.proofs.OrderLemmas.{cmp_self}
 use Rattle.cgs_poly.specs.declared.ring.Ring.{Ring}
 use Rattle.cgs_poly.specs.Polynomial.{Term, places, total, IsCanonical, one}
-use Rattle.cgs_poly.specs.Product.{lead}
-use Rattle.cgs_poly.specs.Parameters.{HasNoVariables, power_at, value_at, variables_ring, without_variables, lc_x, specialised}
+use Rattle.cgs_poly.specs.Product.{leading_monomial}
+use Rattle.cgs_poly.specs.Parameters.{power_at, value_at, variables_ring, without_variables, lc_x, specialised}
 use Rattle.cgs_poly.proofs.SumLemmas.{Alike}
 use Rattle.cgs_poly.proofs.OneLemmas.{one_canonical}
 use Rattle.cgs_poly.proofs.SpecialisedLemmas.{power_zeros}
@@ -30,14 +30,11 @@ module _ (ring : Ring) where
   zeros_power a = ap (λ m. power_at m a) (drop-replicate ring.variables (places ring) 0 ∙ ap (λ n. replicate {A = ℕ} n 0) (omega arith))
       ∙ power_zeros ring.parameters a
 
-  pub one_free : HasNoVariables ring (one ring)
-  one_free = (zeros_variables, tt)
-
   module _ (a : List ℕ) (two : 1 < ring.modulus) where
     abbrev pos : 0 < ring.modulus
     pos = omega (arith, two)
 
-    pub one_leading : ¬ (value_at ring a (lc_x ring (one ring)) ≡ 0)
+    one_leading : ¬ (value_at ring a (lc_x ring (one ring)) ≡ 0)
     one_leading z = omega (arith, sym (ap (λ n. n % ring.modulus) value ∙ mod-eq_of_lt two) ∙ z)
       where
         value : total (λ m. power_at (drop ring.variables m) a) (lc_x ring (one ring)) ≡ 1
@@ -65,7 +62,7 @@ module _ (ring : Ring) where
           ap (λ n. n % ring.modulus) e ∙ sym (one_special_total w);
     }
 
-    one_special_lead : lead (specialised ring a (one ring)) ≡ replicate ring.variables 0
+    one_special_lead : leading_monomial (specialised ring a (one ring)) ≡ replicate ring.variables 0
     one_special_lead = specialised_lead ring a pos (one ring) (one_canonical ring two) one_leading ∙ zeros_variables
 
     abbrev ones : List (List Term)
@@ -82,7 +79,12 @@ module _ (ring : Ring) where
               (specialised_canonical ring a pos (one ring) (one_canonical ring two) one_leading);
           members = at_one (λ i. IsMember (variables_ring ring) (specialised_list ring a F) (get_or ones i [])) m;
           not_zero = at_one (λ i. ¬ (get_or ones i [] ≡ [])) (specialised_not_zero ring a pos (one ring) (one_canonical ring two) one_leading);
-          leads = λ f k h some. (0, omega arith, subst (λ l. divides l (lead f) ≡ true) (sym one_special_lead) (divides_by_one ring.variables (lead f)));
+          leads = λ f k h some. (
+            0,
+            omega arith,
+            subst (λ l. divides l (leading_monomial f) ≡ true) (sym one_special_lead)
+                (divides_by_one ring.variables (leading_monomial f)),
+          );
         };
         apart = λ i j hi hj n d. n (omega (arith, hi, hj));
       };

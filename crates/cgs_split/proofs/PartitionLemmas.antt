@@ -13,7 +13,7 @@ use Rattle.cgs_split.specs.Nodes.{unit_children, split_children, main_child, chi
 use Rattle.cgs_split.proofs.ConditionLemmas.{all_with, none_with, none_with_all}
 
 -- 1 where a test holds
-abbrev pub count : Bool → ℕ
+abbrev count : Bool → ℕ
 count b = cond b 1 0
 
 branches_append : (ring : Ring) (a : List ℕ) (bs cs : List Case) → branches_at ring a (bs ++ cs) ≡ branches_at ring a bs + branches_at ring a cs

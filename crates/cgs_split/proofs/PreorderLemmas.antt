@@ -3,6 +3,7 @@ use Rattle.std.proofs.Common.{ℕ, zero, suc, ◌≡◌, ◌+◌, ◌<◌, Optio
 use Rattle.std.proofs.lemmas.List.{append-nil, map-append}
 use Rattle.std.specs.Prelude.{slice_get}
 use Rattle.std.specs.List.{AllByRecursion}
+use Rattle.cgs_list.proofs.ListLemmas.{all_weaker}
 use Rattle.cgs_poly.specs.declared.ring.Ring.{Ring}
 use Rattle.cgs_poly.specs.Polynomial.{Term, IsRing, IsCanonical}
 use Rattle.cgs_algebra.specs.Specialisation.{IsParametric}
@@ -13,7 +14,7 @@ use Rattle.cgs_split.specs.declared.kind.Limits.{Limits}
 use Rattle.cgs_split.specs.Cases.{Case}
 use Rattle.cgs_split.specs.Soundness.{IsBranch, IsSoundChild}
 use Rattle.cgs_split.specs.Trees.{IsNode, AreTreesOf, none, tree, root_case, own_entries}
-use Rattle.cgs_split.proofs.TreeLemmas.{node_below, branch_map, root_valid, tree_comprehensive}
+use Rattle.cgs_split.proofs.TreeLemmas.{node_below, root_valid, tree_comprehensive}
 
 -- what a function makes of the list of a tree
 
@@ -82,7 +83,7 @@ module _ (ring : Ring) (r : IsRing ring) (node : Case → List ℕ → Option En
 
   valid_below : (branch : Case) (path : List ℕ) → IsBranch ring branch → AllByRecursion (IsBranch ring) (node branch path).1
   valid_below branch path ok =
-      branch_map (IsSoundChild ring branch) (IsBranch ring) (node branch path).1
+      all_weaker (IsSoundChild ring branch) (IsBranch ring) (node branch path).1
       (node_below ring r branch ok path (own_entries (node branch path).0) (node branch path).1 (each branch path ok)) (λ c s. s.valid)
 
   row : (levels : ℕ) → Forest levels → Forest (suc levels)

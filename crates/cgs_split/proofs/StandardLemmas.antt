@@ -7,11 +7,11 @@ use Rattle.cgs_exps.specs.Monomial.{product, divides, quotient}
 use Rattle.cgs_exps.proofs.MonomialLemmas.{product_length, quotient_product, quotient_length}
 use Rattle.cgs_poly.specs.declared.ring.Ring.{Ring}
 use Rattle.cgs_poly.specs.Polynomial.{Term, places, order_of, StartsBelow, IsCanonical}
-use Rattle.cgs_poly.specs.Product.{multiple, lead}
+use Rattle.cgs_poly.specs.Product.{multiple, leading_monomial}
 use Rattle.cgs_poly.specs.Parameters.{lead_x, variables_ring, specialised}
 use Rattle.cgs_poly.proofs.ProductOrderLemmas.{compared_shift}
 use Rattle.cgs_algebra.specs.Combination.{IsMember}
-use Rattle.cgs_algebra.specs.Groebner.{lead_at}
+use Rattle.cgs_algebra.specs.Groebner.{leading_monomial_at}
 use Rattle.cgs_algebra.specs.Specialisation.{specialised_list}
 use Rattle.cgs_algebra.proofs.MemberLemmas.{multiple_member}
 use Rattle.cgs_algebra.proofs.PointLemmas.{get_specialised}
@@ -34,7 +34,7 @@ multiple_canonical ring t (x ∷ f) l h =
 -- each multiple of a lead of a member is one
 lead_of_multiple : (ring : Ring) (F : List (List Term)) (m : List ℕ) (g : List Term) → 0 < ring.modulus → length m ≡ places ring → IsCanonical ring g
     → (g ≡ [] → ⊥) → IsMember ring F g
-    → divides (lead g) m ≡ true → IsLeadOfMember ring F m
+    → divides (leading_monomial g) m ≡ true → IsLeadOfMember ring F m
 lead_of_multiple ring F m [] pos l h some i d = absurd (some refl)
 lead_of_multiple ring F m (z ∷ g) pos l h some i d =
     let t : List ℕ = quotient m z.exponents in
@@ -49,8 +49,8 @@ lead_of_multiple ring F m (z ∷ g) pos l h some i d =
 
 module _ (ring : Ring) (a : List ℕ) (pos : 0 < ring.modulus) (F B : List (List Term)) (b_ok : AllByRecursion (IsCanonical ring) B)
     (basis : IsBasisAt ring a F B) where
-  special_lead : (i : ℕ) → i < length B → lead_at (specialised_list ring a B) i ≡ lead_x ring (get_or B i [])
-  special_lead i l = ap lead (get_specialised ring a B i)
+  special_lead : (i : ℕ) → i < length B → leading_monomial_at (specialised_list ring a B) i ≡ lead_x ring (get_or B i [])
+  special_lead i l = ap leading_monomial (get_specialised ring a B i)
       ∙ specialised_lead ring a pos (get_or B i []) (each_at (IsCanonical ring) B b_ok i l) (leading_at ring a B basis.leading i l)
 
   special_places : (i : ℕ) → i < length B → i < length (specialised_list ring a B)
@@ -66,11 +66,15 @@ module _ (ring : Ring) (a : List ℕ) (pos : 0 < ring.modulus) (F B : List (List
       (specialised_canonical ring a pos (get_or B i []) (each_at (IsCanonical ring) B b_ok i h.1) (leading_at ring a B basis.leading i h.1))
       (λ e. basis.minimal.groebner.not_zero i (special_places i h.1) (at_i ∙ e))
       (subst (λ f. IsMember (variables_ring ring) (specialised_list ring a F) f) at_i (basis.minimal.groebner.members i (special_places i h.1)))
-      (subst (λ f. divides (lead f) m ≡ true) at_i (subst (λ x. divides x m ≡ true) (sym (special_lead i h.1)) h.2))
+      (subst (λ f. divides (leading_monomial f) m ≡ true) at_i (subst (λ x. divides x m ≡ true) (sym (special_lead i h.1)) h.2))
 
   -- a lead of the ideal is divided by one of the basis
   pub leads_divided : (m : List ℕ) → IsLeadOfMember (variables_ring ring) (specialised_list ring a F) m → SomeLeadXDivides ring B m
   leads_divided m h =
       let i = basis.minimal.groebner.leads h.member h.canonical h.inside h.some in
-      let l : i.0 < length B = omega (arith, i.1, length-map B (specialised ring a)) in
-      (i.0, l, subst (λ x. divides x m ≡ true) (special_lead i.0 l) (subst (λ n. divides (lead_at (specialised_list ring a B) i.0) n ≡ true) h.leads i.2))
+      let l : i.0 < length B = omega (arith, i.1, length-map B (specialised ring a)) in (
+        i.0,
+        l,
+        subst (λ x. divides x m ≡ true) (special_lead i.0 l)
+            (subst (λ n. divides (leading_monomial_at (specialised_list ring a B) i.0) n ≡ true) h.leads i.2),
+      )

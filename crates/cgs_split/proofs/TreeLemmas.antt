@@ -2,6 +2,7 @@
 use Rattle.std.proofs.Common.{ℕ, ◌≡◌, ◌+◌, ◌<◌, ◌≤◌, inl, inr, Bool, true, false, cond, List, [], ◌∷◌, ◌++◌, refl, ap, ◌∙◌, arith}
 use Rattle.std.proofs.Math.Nat.{add-zero}
 use Rattle.std.specs.List.{AllByRecursion}
+use Rattle.cgs_list.proofs.ListLemmas.{all_append, all_weaker}
 use Rattle.cgs_field.specs.Prime.{IsField}
 use Rattle.cgs_field.proofs.PrimeLemmas.{modulus_field}
 use Rattle.cgs_poly.specs.declared.ring.Ring.{Ring}
@@ -27,7 +28,7 @@ use Rattle.cgs_split.specs.Soundness.{IsBranch, IsPointOf, SameIdealAt, IsGood, 
 use Rattle.cgs_split.specs.Trees.{entry_of, IsNode, empty, refused, solved, whole, divided, AreTreesOf, none, tree, root_case, IsSoundNode}
 use Rattle.cgs_split.proofs.ConditionLemmas.{all_with_all, none_with_all, region_told, told_region, each_with_all}
 use Rattle.cgs_algebra.proofs.SameIdealLemmas.{same_ideal_trans}
-use Rattle.cgs_split.proofs.IdealLemmas.{each_map, members_at, specials_canonical}
+use Rattle.cgs_split.proofs.IdealLemmas.{members_at, specials_canonical}
 use Rattle.cgs_split.proofs.OneLemmas.{one_basis}
 use Rattle.cgs_split.proofs.NodeLemmas.{monic_parametric, basis_of_same, children_sound, children_partition}
 
@@ -36,14 +37,6 @@ use Rattle.cgs_split.proofs.NodeLemmas.{monic_parametric, basis_of_same, childre
 entries_append : (ring : Ring) (a : List ℕ) (es fs : List Entry) → entries_at ring a (es ++ fs) ≡ entries_at ring a es + entries_at ring a fs
 entries_append ring a [] fs = omega arith
 entries_append ring a (e ∷ es) fs = omega (arith, entries_append ring a es fs, entries_first ring a e es, entries_first ring a e (es ++ fs))
-
-entry_append : (P : Entry → Type 0) (es fs : List Entry) → AllByRecursion P es → AllByRecursion P fs → AllByRecursion P (es ++ fs)
-entry_append P [] fs h k = k
-entry_append P (e ∷ es) fs h k = (h.0, entry_append P es fs h.1 k)
-
-pub branch_map : (P Q : Case → Type 0) (bs : List Case) → AllByRecursion P bs → ((b : Case) → P b → Q b) → AllByRecursion Q bs
-branch_map P Q [] h k = tt
-branch_map P Q (b ∷ bs) h k = (k b h.0, branch_map P Q bs h.1 k)
 
 -- a branch that a point is of is counted
 counted : (ring : Ring) (a : List ℕ) (n : ℕ) (bs : List Case) → branches_at ring a bs ≤ n → AllByRecursion (λ b. is_point_of ring a b ≡ true → 0 < n) bs
@@ -95,7 +88,7 @@ module _ (ring : Ring) (r : IsRing ring) where
       → entries_at ring a entries ≡ branches_at ring a branches
   trees_count a point branches entries none ok = refl
   trees_count a point branches entries (tree branch path children others own below rest n t u) ok =
-      let valid = branch_map (IsSoundChild ring branch) (IsBranch ring) children (node_below branch ok.0 path own children n) (λ c s. s.valid) in
+      let valid = all_weaker (IsSoundChild ring branch) (IsBranch ring) children (node_below branch ok.0 path own children n) (λ c s. s.valid) in
       omega (
         arith,
         entries_append ring a (own ++ below) rest,
@@ -111,7 +104,7 @@ module _ (ring : Ring) (r : IsRing ring) where
       → IsNode ring branch path own children
       → AllByRecursion (λ c. IsPointOf ring a c → IsPointOf ring a branch) children
   child_inside a point branch ok path own children n =
-      branch_map (λ c. is_point_of ring a c ≡ true → 0 < cond (is_point_of ring a branch) 1 0) (λ c. IsPointOf ring a c → IsPointOf ring a branch) children
+      all_weaker (λ c. is_point_of ring a c ≡ true → 0 < cond (is_point_of ring a branch) 1 0) (λ c. IsPointOf ring a c → IsPointOf ring a branch) children
       (counted ring a (cond (is_point_of ring a branch) 1 0) children (omega (arith, node_count a point branch ok path own children n)))
       (λ c k h. by_test (is_point_of ring a branch) refl (k (told_region ring a c.zero c.nonzero h)))
     where
@@ -162,7 +155,7 @@ module _ (ring : Ring) (r : IsRing ring) where
     children_of_root : (branch : Case) → IsOf branch → (path : List ℕ) (own : List Entry) (children : List Case) → IsNode ring branch path own children
         → AllByRecursion IsOf children
     children_of_root branch h path own children n =
-        branch_map (λ c. IsSoundChild ring branch c × ((a : List ℕ) → IsPoint ring a → IsPointOf ring a c → IsPointOf ring a branch)) IsOf children
+        all_weaker (λ c. IsSoundChild ring branch c × ((a : List ℕ) → IsPoint ring a → IsPointOf ring a c → IsPointOf ring a branch)) IsOf children
         (branch_both (IsSoundChild ring branch) (λ c. (a : List ℕ) → IsPoint ring a → IsPointOf ring a c → IsPointOf ring a branch) children
         (node_below branch h.valid path own children n)
         (all_points (λ a. IsPoint ring a) (λ a c. IsPointOf ring a c → IsPointOf ring a branch) children
@@ -191,8 +184,8 @@ module _ (ring : Ring) (r : IsRing ring) where
         → AllByRecursion (IsSound ring F) entries
     trees_based branches entries none h = tt
     trees_based branches entries (tree branch path children others own below rest n t u) h =
-        entry_append (IsSound ring F) (own ++ below) rest
-        (entry_append (IsSound ring F) own below (own_based branch h.0 path own children n)
+        all_append (IsSound ring F) (own ++ below) rest
+        (all_append (IsSound ring F) own below (own_based branch h.0 path own children n)
         (trees_based children below t (children_of_root branch h.0 path own children n)))
         (trees_based others rest u h.1)
 
@@ -205,10 +198,10 @@ module _ (ring : Ring) (r : IsRing ring) where
 
     conditions_ok : (L : List (List Term)) → AllByRecursion (IsParametric ring) L → AllByRecursion (IsParametric ring) (with_members ring [] L)
     conditions_ok L h = each_with_all ring (IsParametric ring) [] L tt
-        (each_map (IsParametric ring) (λ f. IsParametric ring (monic_of ring f)) L h (λ f p. monic_parametric ring f pos p))
+        (all_weaker (IsParametric ring) (λ f. IsParametric ring (monic_of ring f)) L h (λ f p. monic_parametric ring f pos p))
 
     canonical_list : (L : List (List Term)) → AllByRecursion (IsParametric ring) L → AllByRecursion (IsCanonical ring) L
-    canonical_list L h = each_map (IsParametric ring) (IsCanonical ring) L h (λ f p. p.canonical)
+    canonical_list L h = all_weaker (IsParametric ring) (IsCanonical ring) L h (λ f p. p.canonical)
 
     pub root_valid : IsBranch ring root
     root_valid = record { of = refl; zero = conditions_ok zero zero_ok; nonzero = conditions_ok nonzero nonzero_ok; polys = polys_ok }

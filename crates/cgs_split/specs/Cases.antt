@@ -2,7 +2,7 @@
 use Rattle.std.specs.Prelude.{List}
 use Rattle.cgs_poly.specs.declared.ring.Ring.{Ring}
 use Rattle.std.specs.List.{AllByRecursion}
-use Rattle.cgs_poly.specs.Polynomial.{Term, IsRing, IsPoly}
+use Rattle.cgs_poly.specs.Polynomial.{Term, IsRing, ArePolys}
 use Rattle.cgs_poly.specs.Parameters.{IsCondition}
 use Rattle.cgs_split.specs.declared.kind.BranchKind.{BranchKind}
 use Rattle.cgs_split.specs.declared.kind.Limits.{Limits}
@@ -24,7 +24,7 @@ pub record IsPrepared (ring : Ring) (E N F : List (List Term)) : Type 0 where
   pub valid : IsRing ring
   pub zero : AllByRecursion (IsCondition ring) E
   pub nonzero : AllByRecursion (IsCondition ring) N
-  pub polys : AllByRecursion (IsPoly ring) F
+  pub polys : ArePolys ring F
 
 -- another case in the same ring under the same limits
 abbrev pub case_like : Case → BranchKind → List (List Term) → List (List Term) → List (List Term) → Case

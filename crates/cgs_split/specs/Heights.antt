@@ -13,7 +13,7 @@ use Rattle.cgs_basis.specs.BasisRun.{basis_run}
 use Rattle.cgs_entry.specs.Conditions.{with_member}
 use Rattle.cgs_entry.specs.declared.entry.Cause.TheVariants.{Budget, Degree, Depth}
 use Rattle.cgs_entry.specs.declared.entry.EntryKind.TheVariants.{Solved, Refused}
-use Rattle.cgs_list.proofs.ListLemmas.{all_at}
+use Rattle.cgs_list.proofs.ListLemmas.{all_at, all_append}
 use Rattle.cgs_dickson.specs.Dickson.{minimal_dickson, coefficient_list}
 use Rattle.cgs_radical.specs.EmptinessRun.{Ending, ended, out_of_budget, out_of_degree, is_one_alone, emptiness_run}
 use Rattle.cgs_board.specs.Tree.{Falls}
@@ -30,16 +30,9 @@ low Split n = omega arith
 low UnitKind n = omega arith
 low Main n = omega arith
 
-max_big : (n : ℕ) → 1 ≤ n → max 1 n ≡ n
-max_big n l = omega arith
-
 module _ (branch : Case) (path : List ℕ) where
   abbrev IsAlike : Case → Type 0
   IsAlike child = child.limits ≡ branch.limits
-
-  alike_append : (bs cs : List Case) → AllByRecursion IsAlike bs → AllByRecursion IsAlike cs → AllByRecursion IsAlike (bs ++ cs)
-  alike_append [] cs h k = k
-  alike_append (b ∷ bs) cs h k = (h.0, alike_append bs cs h.1 k)
 
   units_alike : (ring : Ring) (E N K : List (List Term)) → AllByRecursion IsAlike (unit_children ring branch E N K)
   units_alike ring E N [] = tt
@@ -51,7 +44,7 @@ module _ (branch : Case) (path : List ℕ) where
 
   children_alike : (ring : Ring) (G M : List (List Term)) → AllByRecursion IsAlike (children_of ring branch G M)
   children_alike ring G M =
-      alike_append (unit_children ring branch branch.zero branch.nonzero (parametric_members ring G))
+      all_append IsAlike (unit_children ring branch branch.zero branch.nonzero (parametric_members ring G))
       (main_child ring branch G M ∷ split_children ring branch (parametric_members ring G) branch.nonzero (other_members ring G)
       (coefficient_list ring M))
       (units_alike ring branch.zero branch.nonzero (parametric_members ring G))

@@ -2,7 +2,7 @@
 use Rattle.std.specs.Prelude.{ℕ, List, [], ◌∷◌, map}
 use Rattle.std.specs.List.{AllByRecursion}
 use Rattle.cgs_poly.specs.declared.ring.Ring.{Ring}
-use Rattle.cgs_poly.specs.Polynomial.{Term, IsRing, IsCanonical, IsPoly}
+use Rattle.cgs_poly.specs.Polynomial.{Term, IsRing, IsCanonical, ArePolys}
 use Rattle.cgs_algebra.specs.Specialisation.{IsParametric}
 use Rattle.cgs_entry.specs.declared.entry.Entry.{Entry}
 use Rattle.cgs_poly.specs.Parameters.{IsCondition}
@@ -48,7 +48,7 @@ ListIsComprehensive =
 abbrev pub EntriesAreOfRing : Type 0
 EntriesAreOfRing =
     (ring : Ring) (limits : Limits) (zero nonzero polys : List (List Term)) → IsRing ring → AllByRecursion (IsCondition ring) zero
-    → AllByRecursion (IsCondition ring) nonzero → AllByRecursion (IsPoly ring) polys
+    → AllByRecursion (IsCondition ring) nonzero → ArePolys ring polys
     → AllByRecursion (IsEntry ring) (entry_list ring limits zero nonzero polys)
 
 -- heights fall

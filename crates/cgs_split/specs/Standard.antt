@@ -5,7 +5,7 @@ use Rattle.cgs_field.specs.Prime.{IsModulus}
 use Rattle.cgs_exps.specs.Monomial.{divides}
 use Rattle.cgs_poly.specs.declared.ring.Ring.{Ring}
 use Rattle.cgs_poly.specs.Polynomial.{Term, IsCanonical}
-use Rattle.cgs_poly.specs.Product.{lead}
+use Rattle.cgs_poly.specs.Product.{leading_monomial}
 use Rattle.cgs_poly.specs.Parameters.{lead_x, variables_ring}
 use Rattle.cgs_algebra.specs.Combination.{IsMember}
 use Rattle.cgs_algebra.specs.Specialisation.{specialised_list}
@@ -21,7 +21,7 @@ pub record IsLeadOfMember (ring : Ring) (F : List (List Term)) (m : List ℕ) : 
   pub canonical : IsCanonical ring member
   pub inside : IsMember ring F member
   pub some : ¬ (member ≡ [])
-  pub leads : lead member ≡ m
+  pub leads : leading_monomial member ≡ m
 
 -- at a point of a basis, a monomial in the variables is a lead exactly where a lead of the basis divides it
 abbrev pub StandardMonomials : Type 0

@@ -2,7 +2,7 @@
 
 ghost use Rattle.std.specs.Prelude.{◌≡◌, IfOk};
 ghost use Rattle.std.specs.List.{AllByRecursion};
-ghost use Rattle.cgs_poly.specs.Polynomial.{IsPoly};
+ghost use Rattle.cgs_poly.specs.Polynomial.{ArePolys};
 ghost use Rattle.cgs_poly.specs.Parameters.{IsCondition};
 ghost use Rattle.cgs_split.specs.Cases.{Case, IsPrepared, case_like};
 ghost use Rattle.cgs_split.specs.NodeRun.{is_too_deep};
@@ -10,9 +10,10 @@ ghost use Rattle.cgs_split.specs.Trees.{entry_of};
 
 use crate::kind::{BranchKind, Limits};
 use cgs_entry::{Conditions, Entry, EntryKind};
+use cgs_list::Duplicate;
 use cgs_path::Path;
-use cgs_poly::{PolyList, Ring, copied};
-use std::alloc::{AllocError, Global};
+use cgs_poly::{PolyList, Ring};
+use std::alloc::AllocError;
 use std::marker::Model;
 
 /// Polynomials under conditions: the points at which they are looked at. Its polynomials are of its ring, and its conditions have no variable.
@@ -46,7 +47,7 @@ impl Branch {
     ) -> Branch
         requires zero { AllByRecursion (IsCondition self.now.ring) zero }
         requires nonzero { AllByRecursion (IsCondition self.now.ring) nonzero }
-        requires polys { AllByRecursion (IsPoly self.now.ring) polys }
+        requires polys { ArePolys self.now.ring polys }
         ensures { result ≡ case_like self.now kind zero nonzero polys }
     {
         Branch {
@@ -59,17 +60,12 @@ impl Branch {
     }
 
     /// An entry with the branch's conditions.
-    pub(crate) fn entry(
-        &self,
-        alloc: Global,
-        path: &Path,
-        kind: EntryKind,
-    ) -> Result<Entry, AllocError>
+    pub(crate) fn entry(&self, path: &Path, kind: EntryKind) -> Result<Entry, AllocError>
         ensures { IfOk result (λ entry. entry ≡ entry_of self.now path.now kind) }
     {
         let path = path.copy()?;
-        let zero = copied(alloc, &self.conditions.zero)?;
-        let nonzero = copied(alloc, &self.conditions.nonzero)?;
+        let zero = self.conditions.zero.copy()?;
+        let nonzero = self.conditions.nonzero.copy()?;
         Ok(Entry {
             path,
             conditions: Conditions { zero, nonzero },

@@ -1,8 +1,8 @@
 //! The children of a branch that has a basis.
 
-ghost use Rattle.std.specs.Prelude.{◌≡◌, ◌++◌, ◌<◌, [], IfOk, OnOk};
+ghost use Rattle.std.specs.Prelude.{◌≡◌, ◌++◌, [], IfOk, OnOk};
 ghost use Rattle.std.specs.List.{AllByRecursion};
-ghost use Rattle.cgs_poly.specs.Polynomial.{IsRing, IsPoly, one};
+ghost use Rattle.cgs_poly.specs.Polynomial.{IsRing, ArePolys};
 ghost use Rattle.cgs_poly.specs.Parameters.{IsCondition};
 ghost use Rattle.cgs_algebra.specs.Stability.{other_members as others};
 ghost use Rattle.cgs_dickson.specs.Dickson.{minimal_dickson as dickson};
@@ -16,7 +16,8 @@ use crate::kind::BranchKind;
 use crate::lists::{other_members, parametric_members, with_condition, with_conditions};
 use cgs_dickson::{coefficient_list, minimal_dickson};
 use cgs_entry::{Conditions, add};
-use cgs_poly::{PolyList, Ring, copied};
+use cgs_list::Duplicate;
+use cgs_poly::{PolyList, Ring};
 use cgs_radical::one_alone;
 use std::alloc::{AllocError, Global};
 
@@ -28,7 +29,7 @@ impl Branch {
         alloc: Global,
         basis: &PolyList,
     ) -> Result<Vec<Branch>, AllocError>
-        requires polys { AllByRecursion (IsPoly self.now.ring) basis.now }
+        requires polys { ArePolys self.now.ring basis.now }
         requires nonzero { AllByRecursion (λ g. ¬ (g ≡ [])) basis.now }
         ensures { IfOk result (λ all. all.items ≡ children self.now.ring self.now basis.now (dickson self.now.ring (others self.now.ring basis.now))) }
     {
@@ -71,10 +72,10 @@ impl Branch {
         requires parametric { AllByRecursion (IsCondition ring.now) parametric.now }
         ensures { OnOk result (all.new.items ≡ all.old.items ++ unit_children ring.now self.now zero.now nonzero.now parametric.now) }
     {
-        let mut before = copied(alloc, zero)?;
+        let mut before = zero.copy()?;
         for i in 0..parametric.len() {
             let g = parametric.get(i);
-            let vanish = copied(alloc, &before)?;
+            let vanish = before.copy()?;
             let stand = with_condition(alloc, ring, nonzero, g)?;
             let polys = one_alone(alloc, ring)?;
             all.push(self.child(BranchKind::Unit, vanish, stand, polys))?;
@@ -98,12 +99,12 @@ impl Branch {
         requires nonzero { AllByRecursion (IsCondition ring.now) nonzero.now }
         requires parametric { AllByRecursion (IsCondition ring.now) parametric.now }
         requires coefficients { AllByRecursion (IsCondition ring.now) coefficients.now }
-        requires kept { AllByRecursion (IsPoly ring.now) kept.now }
+        requires kept { ArePolys ring.now kept.now }
         ensures { IfOk result (λ child. child ≡ case_like self.now Main parametric.now (with_members ring.now nonzero.now coefficients.now) kept.now) }
     {
-        let vanish = copied(alloc, parametric)?;
+        let vanish = parametric.copy()?;
         let stand = with_conditions(alloc, ring, nonzero, coefficients)?;
-        let polys = copied(alloc, kept)?;
+        let polys = kept.copy()?;
         Ok(self.child(BranchKind::Main, vanish, stand, polys))
     }
 
@@ -123,15 +124,15 @@ impl Branch {
         requires nonzero { AllByRecursion (IsCondition ring.now) nonzero.now }
         requires parametric { AllByRecursion (IsCondition ring.now) parametric.now }
         requires coefficients { AllByRecursion (IsCondition ring.now) coefficients.now }
-        requires other { AllByRecursion (IsPoly ring.now) other.now }
+        requires other { ArePolys ring.now other.now }
         ensures { OnOk result (all.new.items ≡ all.old.items ++ split_children ring.now self.now parametric.now nonzero.now other.now coefficients.now) }
     {
-        let mut before = copied(alloc, nonzero)?;
+        let mut before = nonzero.copy()?;
         for i in 0..coefficients.len() {
             let h = coefficients.get(i);
             let vanish = with_condition(alloc, ring, parametric, h)?;
-            let stand = copied(alloc, &before)?;
-            let polys = copied(alloc, other)?;
+            let stand = before.copy()?;
+            let polys = other.copy()?;
             all.push(self.child(BranchKind::Split, vanish, stand, polys))?;
             add(alloc, ring, &mut before, h)?;
         }

@@ -2,13 +2,14 @@
 
 ghost use Rattle.std.specs.Prelude.{◌≡◌, IfOk};
 ghost use Rattle.std.specs.List.{AllByRecursion};
-ghost use Rattle.cgs_poly.specs.Polynomial.{IsRing, IsPoly};
+ghost use Rattle.cgs_poly.specs.Polynomial.{IsRing, ArePolys};
 ghost use Rattle.cgs_poly.specs.Parameters.{IsCondition};
 ghost use Rattle.cgs_algebra.specs.Stability.{parametric_members as parametric, other_members as others};
 ghost use Rattle.cgs_entry.specs.Conditions.{with_member, with_members as with_all_members};
 
 use cgs_entry::add;
-use cgs_poly::{Poly, PolyList, Ring, copied};
+use cgs_list::Duplicate;
+use cgs_poly::{Poly, PolyList, Ring};
 use std::alloc::{AllocError, Global};
 
 /// The list with a condition added.
@@ -24,7 +25,7 @@ pub(crate) fn with_condition(
     ensures conditions { IfOk result (λ longer. AllByRecursion (IsCondition ring.now) longer) }
     ensures added { IfOk result (λ longer. longer ≡ with_member ring.now list.now f.now) }
 {
-    let mut longer = copied(alloc, list)?;
+    let mut longer = list.copy()?;
     add(alloc, ring, &mut longer, f)?;
     Ok(longer)
 }
@@ -42,7 +43,7 @@ pub(crate) fn with_conditions(
     ensures conditions { IfOk result (λ longer. AllByRecursion (IsCondition ring.now) longer) }
     ensures added { IfOk result (λ longer. longer ≡ with_all_members ring.now list.now more.now) }
 {
-    let mut longer = copied(alloc, list)?;
+    let mut longer = list.copy()?;
     for i in 0..more.len() {
         add(alloc, ring, &mut longer, more.get(i))?;
     }
@@ -55,7 +56,7 @@ pub(crate) fn parametric_members(
     ring: &Ring,
     list: &PolyList,
 ) -> Result<PolyList, AllocError>
-    requires polys { AllByRecursion (IsPoly ring.now) list.now }
+    requires polys { ArePolys ring.now list.now }
     ensures { IfOk result (λ kept. kept ≡ parametric ring.now list.now) }
 {
     let mut kept = PolyList::new(alloc);
@@ -74,7 +75,7 @@ pub(crate) fn other_members(
     ring: &Ring,
     list: &PolyList,
 ) -> Result<PolyList, AllocError>
-    requires polys { AllByRecursion (IsPoly ring.now) list.now }
+    requires polys { ArePolys ring.now list.now }
     ensures { IfOk result (λ kept. kept ≡ others ring.now list.now) }
 {
     let mut kept = PolyList::new(alloc);

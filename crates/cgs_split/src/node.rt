@@ -2,7 +2,7 @@
 
 ghost use Rattle.std.specs.Prelude.{◌≡◌, ◌++◌, [], IfOk};
 ghost use Rattle.std.specs.List.{AllByRecursion};
-ghost use Rattle.cgs_poly.specs.Polynomial.{IsPoly};
+ghost use Rattle.cgs_poly.specs.Polynomial.{ArePolys};
 ghost use Rattle.cgs_entry.specs.declared.entry.EntryKind.TheVariants.{Solved};
 ghost use Rattle.cgs_basis.specs.BasisRun.{basis_run};
 ghost use Rattle.cgs_split.specs.NodeRun.{node_of, height_of, settled, after_basis, with_basis, with_points, without_test};
@@ -16,8 +16,9 @@ use cgs_basis::reduced_basis;
 use cgs_board::{Job, Outcome};
 use cgs_divide::Stop;
 use cgs_entry::{Cause, Entry, EntryKind};
+use cgs_list::Duplicate;
 use cgs_path::Path;
-use cgs_poly::{PolyList, are_same, copied, joined};
+use cgs_poly::{PolyList, are_same, joined};
 use cgs_radical::{one_alone, test_empty};
 use std::alloc::{AllocError, Global};
 
@@ -50,10 +51,10 @@ impl Job for Branch {
         }
     }
 
-    fn copy(&self, alloc: Global) -> Result<Branch, AllocError> {
-        let zero = copied(alloc, &self.conditions.zero)?;
-        let nonzero = copied(alloc, &self.conditions.nonzero)?;
-        let polys = copied(alloc, &self.polys)?;
+    fn copy(&self, _alloc: Global) -> Result<Branch, AllocError> {
+        let zero = self.conditions.zero.copy()?;
+        let nonzero = self.conditions.nonzero.copy()?;
+        let polys = self.polys.copy()?;
         Ok(self.child(self.kind, zero, nonzero, polys))
     }
 
@@ -79,7 +80,7 @@ impl Branch {
     ) -> Result<Outcome<Entry, Branch>, AllocError>
         ensures { IfOk result (λ node. node ≡ settled self.now path.now kind) }
     {
-        let entry = self.entry(alloc, path, kind)?;
+        let entry = self.entry(path, kind)?;
         Ok(Outcome {
             entry: Some(entry),
             children: Vec::new(alloc),
@@ -110,7 +111,7 @@ impl Branch {
     ) -> Result<Outcome<Entry, Branch>, AllocError>
         ensures { IfOk result (λ node. node ≡ settled self.now path.now (Solved self.now.polys tested)) }
     {
-        let basis = copied(alloc, &self.polys)?;
+        let basis = self.polys.copy()?;
         self.settled(alloc, path, EntryKind::Solved { basis, tested })
     }
 
@@ -155,7 +156,7 @@ impl Branch {
         path: &Path,
         basis: PolyList,
     ) -> Result<Outcome<Entry, Branch>, AllocError>
-        requires polys { AllByRecursion (IsPoly self.now.ring) basis }
+        requires polys { ArePolys self.now.ring basis }
         requires nonzero { AllByRecursion (λ g. ¬ (g ≡ [])) basis }
         ensures { IfOk result (λ node. node ≡ with_basis self.now path.now basis) }
     {

@@ -9,7 +9,8 @@ use crate::branch::Branch;
 use crate::kind::{BranchKind, Limits};
 use crate::lists::with_conditions;
 use cgs_entry::Conditions;
-use cgs_poly::{PolyList, copied};
+use cgs_list::Duplicate;
+use cgs_poly::PolyList;
 use cgs_problem::Problem;
 use std::alloc::{AllocError, Global};
 
@@ -22,7 +23,7 @@ pub fn root_branch(alloc: Global, problem: &Problem, limits: &Limits) -> Result<
     let none = PolyList::new(alloc);
     let zero = with_conditions(alloc, &problem.ring, &none, &problem.zero)?;
     let nonzero = with_conditions(alloc, &problem.ring, &none, &problem.nonzero)?;
-    let polys = copied(alloc, &problem.polys)?;
+    let polys = problem.polys.copy()?;
     Ok(Branch {
         ring: problem.ring,
         limits: *limits,

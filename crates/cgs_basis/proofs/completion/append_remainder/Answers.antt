@@ -6,4 +6,5 @@ use Rattle.cgs_basis.proofs.completion.append_remainder.Goals as goal
 pub returns-clause-state : goal.returns-clause-state
 returns-clause-state c =
     let l : 0 < length c.args.f.now = omega (arith, c.if-len-eq0.false, c.len.ensures) in
-    c.in_ok-append.ensures.state ∙ sym (remainder_new c.args.ring.now (completion_of c.args.members.now c.args.queue.now) c.args.f.now c.in_ok-member.member l c.in_ok-member.ensures.monic)
+    c.in_ok-append.ensures.state
+    ∙ sym (remainder_new c.args.ring.now (completion_of c.args.members.now c.args.queue.now) c.args.f.now c.in_ok-member.member l c.in_ok-member.ensures.monic)

@@ -13,16 +13,19 @@ loop-i-preserved c =
       | then-not-is_constant+in_ok-add w ↦
           let varies = ap is_constant (sym c.in_ok-coefficient.ensures.part) ∙ (sym c.is_constant.ensures ∙ w.if-not-is_constant.true) in
           let next = coefficient_added c.args.ring.now c.args.members.now c.loop-i.i c.get.result.now c.get.ensures varies in
-          let condition : IsCondition c.args.ring.now c.in_ok-coefficient.coefficient = record { poly = c.in_ok-coefficient.ensures.poly; free = c.in_ok-coefficient.ensures.free } in
+          let condition : IsCondition c.args.ring.now c.in_ok-coefficient.coefficient =
+          record { poly = c.in_ok-coefficient.ensures.poly; free = c.in_ok-coefficient.ensures.free } in
           record {
             list = w.list-is ∙ (w.in_ok-add.ensures.ok ∙ (ap (λ L. with_member c.args.ring.now L c.in_ok-coefficient.coefficient) c.loop-i.invariant.list
                 ∙ (ap (with_member c.args.ring.now _) c.in_ok-coefficient.ensures.part ∙ next)));
-            conditions = subst (λ L. AllByRecursion (IsCondition c.args.ring.now) L) (sym w.list-is) (w.in_ok-add.ensures.conditions c.loop-i.invariant.conditions condition);
+            conditions = subst (λ L. AllByRecursion (IsCondition c.args.ring.now) L) (sym w.list-is)
+                (w.in_ok-add.ensures.conditions c.loop-i.invariant.conditions condition);
           }
       | else-not-is_constant w ↦
           let constant = ap is_constant (sym c.in_ok-coefficient.ensures.part) ∙ (sym c.is_constant.ensures ∙ w.if-not-is_constant.false) in
           record {
-            list = w.list-is ∙ (c.loop-i.invariant.list ∙ coefficient_skipped c.args.ring.now c.args.members.now c.loop-i.i c.get.result.now c.get.ensures constant);
+            list = w.list-is
+                ∙ (c.loop-i.invariant.list ∙ coefficient_skipped c.args.ring.now c.args.members.now c.loop-i.i c.get.result.now c.get.ensures constant);
             conditions = subst (λ L. AllByRecursion (IsCondition c.args.ring.now) L) (sym w.list-is) c.loop-i.invariant.conditions;
           }
     ]

@@ -7,7 +7,8 @@ pub loop-remainder-init : goal.loop-remainder-init
 loop-remainder-init c = first_rows c.args.p c.args.a c.requires.positive c.requires.below
 
 -- the next factor is at most p
-factor_within : (c : goal.In-loop-remainder) → c.loop-remainder.factor_before + c.loop-remainder.before / c.loop-remainder.remainder * c.loop-remainder.factor ≤ c.args.p
+factor_within : (c : goal.In-loop-remainder)
+    → c.loop-remainder.factor_before + c.loop-remainder.before / c.loop-remainder.remainder * c.loop-remainder.factor ≤ c.args.p
 factor_within c =
     let l = c.loop-remainder in
     factor_bound c.args.p l.before l.factor_before l.remainder l.factor (l.before / l.remainder) (l.before % l.remainder)

@@ -8,5 +8,6 @@ use Rattle.cgs_order.proofs.comparison.compare_from_last.Given as goal
 abbrev pub invariant-loop-i : goal.invariant-loop-i
 invariant-loop-i l = record {
   same_degree : sum (take l.i l.a) ≡ sum (take l.i l.b);
-  so_far : slice_cmp nat_cmp (block_key GrevLex l.a) (block_key GrevLex l.b) ≡ slice_cmp nat_cmp (block_key GrevLex (take l.i l.a)) (block_key GrevLex (take l.i l.b));
+  so_far : slice_cmp nat_cmp (block_key GrevLex l.a) (block_key GrevLex l.b)
+      ≡ slice_cmp nat_cmp (block_key GrevLex (take l.i l.a)) (block_key GrevLex (take l.i l.b));
 }

@@ -1,27 +1,31 @@
 use Rattle.std.proofs.Common.{◌≡◌, length, Err, sym, ap, ◌∙◌}
 use Rattle.cgs_exps.proofs.MonomialLemmas.{divides_lcm_left}
 use Rattle.cgs_poly.specs.Polynomial.{term, places}
-use Rattle.cgs_poly.specs.Product.{lead}
+use Rattle.cgs_poly.specs.Product.{leading_monomial}
 use Rattle.cgs_poly.specs.declared.fault.PolyFault.TheVariants as fault
 use Rattle.cgs_poly.proofs.PlaceLemmas.{canonical_at}
+use Rattle.cgs_poly.proofs.ParameterLemmas.{lead_first}
 use Rattle.cgs_algebra.proofs.LcmLemmas.{divides_lcm_right}
-use Rattle.cgs_pairs.proofs.DifferenceLemmas.{lead_read, same_fault, one_is, opposite_is, difference_is, both_low, first_high, second_high}
+use Rattle.cgs_pairs.proofs.DifferenceLemmas.{same_fault, one_is, opposite_is, difference_is, both_low, first_high, second_high}
 use Rattle.cgs_pairs.proofs.difference.s_polynomial.Goals as goal
 use Rattle.cgs_pairs.proofs.difference.s_polynomial.Goals.{After-lcm_into}
 
 -- the leads
 
 first_places : (c : After-lcm_into) → length c.term.result.exponents.now ≡ places c.args.ring.now
-first_places c = (canonical_at c.args.ring.now 0 c.args.f.now (term c.term.result.coefficient c.term.result.exponents.now) c.requires.first.canonical c.term.ensures).places
+first_places c =
+    (canonical_at c.args.ring.now 0 c.args.f.now (term c.term.result.coefficient c.term.result.exponents.now) c.requires.first.canonical c.term.ensures).places
 
 second_places : (c : After-lcm_into) → length c.term-2.result.exponents.now ≡ places c.args.ring.now
-second_places c = (canonical_at c.args.ring.now 0 c.args.g.now (term c.term-2.result.coefficient c.term-2.result.exponents.now) c.requires.second.canonical c.term-2.ensures).places
+second_places c =
+    (canonical_at c.args.ring.now 0 c.args.g.now (term c.term-2.result.coefficient c.term-2.result.exponents.now)
+    c.requires.second.canonical c.term-2.ensures).places
 
-first_lead : (c : After-lcm_into) → lead c.args.f.now ≡ c.term.result.exponents.now
-first_lead c = lead_read c.args.f.now (term c.term.result.coefficient c.term.result.exponents.now) c.term.ensures
+first_lead : (c : After-lcm_into) → leading_monomial c.args.f.now ≡ c.term.result.exponents.now
+first_lead c = lead_first c.args.f.now (term c.term.result.coefficient c.term.result.exponents.now) c.term.ensures
 
-second_lead : (c : After-lcm_into) → lead c.args.g.now ≡ c.term-2.result.exponents.now
-second_lead c = lead_read c.args.g.now (term c.term-2.result.coefficient c.term-2.result.exponents.now) c.term-2.ensures
+second_lead : (c : After-lcm_into) → leading_monomial c.args.g.now ≡ c.term-2.result.exponents.now
+second_lead c = lead_first c.args.g.now (term c.term-2.result.coefficient c.term-2.result.exponents.now) c.term-2.ensures
 
 pub quotient_into-requires-clause-divisor : goal.quotient_into-requires-clause-divisor
 quotient_into-requires-clause-divisor c =
@@ -32,7 +36,8 @@ pub returns-in_err-first-clause-degree : goal.returns-in_err-first-clause-degree
 returns-in_err-first-clause-degree c = λ e.
     let d = (goal.at.returns-in_err-first-clause-degree c).After-lcm_into in
     let k : c.in_err-first.field-0.0 ≡ fault.Degree = same_fault c.from_residual.result c.in_err-first.field-0.0 fault.Degree c.from_residual.ensures.1 e in
-    first_high c.args.ring.now c.requires.ring c.args.f.now c.args.g.now c.requires.first.canonical c.requires.second.canonical c.term.result.exponents.now c.term-2.result.exponents.now
+    first_high c.args.ring.now c.requires.ring c.args.f.now c.args.g.now c.requires.first.canonical
+    c.requires.second.canonical c.term.result.exponents.now c.term-2.result.exponents.now
     (first_lead d) (second_lead d) (first_places d) (second_places d) c.neg.result
     (λ h. c.in_err-first.ensures.degree.0 (ap Err k) (rw (c.quotient_into.ensures, c.lcm_into.ensures) h))
 
@@ -44,24 +49,29 @@ quotient_into-requires-2-clause-divisor c =
 pub returns-in_err-difference-clause-degree : goal.returns-in_err-difference-clause-degree
 returns-in_err-difference-clause-degree c = λ e.
     let d = (goal.at.returns-in_err-difference-clause-degree c).After-lcm_into in
-    let k : c.in_err-difference.field-0.0 ≡ fault.Degree = same_fault c.from_residual-in_err-difference.result c.in_err-difference.field-0.0 fault.Degree c.from_residual-in_err-difference.ensures.1 e in
-    second_high c.args.ring.now c.requires.ring c.args.f.now c.args.g.now c.requires.first.canonical c.requires.second.canonical c.term.result.exponents.now c.term-2.result.exponents.now
+    let k : c.in_err-difference.field-0.0 ≡ fault.Degree =
+    same_fault c.from_residual-in_err-difference.result c.in_err-difference.field-0.0 fault.Degree c.from_residual-in_err-difference.ensures.1 e in
+    second_high c.args.ring.now c.requires.ring c.args.f.now c.args.g.now c.requires.first.canonical
+    c.requires.second.canonical c.term.result.exponents.now c.term-2.result.exponents.now
     (first_lead d) (second_lead d) (first_places d) (second_places d) c.of_u64-one.result
     (λ h. c.in_err-difference.ensures.degree.0 (ap Err k) (rw (c.quotient_into-2.ensures, c.lcm_into.ensures) h))
 
 pub returns-clause-ok : goal.returns-clause-ok
 returns-clause-ok c =
     let d = (goal.at.returns-clause-ok c).After-lcm_into in
-    difference_is c.args.ring.now c.requires.ring c.args.f.now c.args.g.now c.requires.first.canonical c.requires.second.canonical c.term.result.exponents.now c.term-2.result.exponents.now
+    difference_is c.args.ring.now c.requires.ring c.args.f.now c.args.g.now c.requires.first.canonical
+    c.requires.second.canonical c.term.result.exponents.now c.term-2.result.exponents.now
     (first_lead d) (second_lead d) (first_places d) (second_places d) c.in_ok-first.first c.in_ok-difference.difference c.neg.result c.of_u64-one.result
-    (opposite_is c.args.ring.now c.of_u64-one.result c.neg.result c.requires.ring c.of_u64-one.ensures.value c.neg.ensures.value) (c.of_u64-one.ensures.value ∙ one_is c.args.ring.now c.requires.ring)
+    (opposite_is c.args.ring.now c.of_u64-one.result c.neg.result c.requires.ring c.of_u64-one.ensures.value c.neg.ensures.value)
+    (c.of_u64-one.ensures.value ∙ one_is c.args.ring.now c.requires.ring)
     (rw (c.quotient_into.ensures, c.lcm_into.ensures, c.zero-zero.ensures) at c.in_ok-first.ensures.difference)
     (rw (c.quotient_into-2.ensures, c.lcm_into.ensures) at c.in_ok-difference.ensures.difference)
 
 pub returns-clause-low : goal.returns-clause-low
 returns-clause-low c =
     let d = (goal.at.returns-clause-low c).After-lcm_into in
-    both_low c.args.ring.now c.requires.ring c.args.f.now c.args.g.now c.requires.first.canonical c.requires.second.canonical c.term.result.exponents.now c.term-2.result.exponents.now
+    both_low c.args.ring.now c.requires.ring c.args.f.now c.args.g.now c.requires.first.canonical
+    c.requires.second.canonical c.term.result.exponents.now c.term-2.result.exponents.now
     (first_lead d) (second_lead d) (first_places d) (second_places d) c.neg.result c.of_u64-one.result
     (rw (c.quotient_into.ensures, c.lcm_into.ensures) at c.in_ok-first.ensures.low)
     (rw (c.quotient_into-2.ensures, c.lcm_into.ensures) at c.in_ok-difference.ensures.low)

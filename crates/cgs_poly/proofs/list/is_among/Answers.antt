@@ -13,4 +13,5 @@ pub loop-i-preserved : goal.loop-i-preserved
 loop-i-preserved c =
     let l : c.loop-i.i < length c.args.list.now = omega (arith, c.loop-i-test.true, c.len-i-end.ensures) in
     let g = sym (get_or_from_slice_get c.args.list.now c.loop-i.i c.get.result.now c.get.result.now c.get.ensures) in
-    among_later c.args.f.now c.get.result.now c.args.list.now c.loop-i.i l g (λ e. let t = c.same.ensures.1 e in let f = c.if-same.false in cc) ∙ c.loop-i.invariant
+    among_later c.args.f.now c.get.result.now c.args.list.now c.loop-i.i l g (λ e. let t = c.same.ensures.1 e in let f = c.if-same.false in cc)
+    ∙ c.loop-i.invariant

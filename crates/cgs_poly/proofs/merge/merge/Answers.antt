@@ -25,7 +25,8 @@ of_ring g c =
     let moved = g.M.Multiple.monomial c.args.by.now in
     let x = term c.term-term.result.coefficient c.term-term.result.exponents.now in
     let y = there g c in
-    let at = changed_at times moved c.args.g.now c.loop-j.j x y.coefficient y.exponents c.term-term.ensures c.times_coefficient-c.ensures c.times_monomial-m.ensures in
+    let at = changed_at times moved c.args.g.now c.loop-j.j x y.coefficient y.exponents
+    c.term-term.ensures c.times_coefficient-c.ensures c.times_monomial-m.ensures in
     canonical_at ring c.loop-j.j (changed times moved c.args.g.now) y c.requires.second at
 
 pub prepare-requires : goal.prepare-requires
@@ -88,7 +89,8 @@ loop-j-preserved g c =
     let h = changed times moved c.args.g.now in
     let x = here g (goal.at.loop-j-preserved g c).After-term-term in
     let y = there g (goal.at.loop-j-preserved g c).After-times_monomial-m in
-    let at = changed_at times moved c.args.g.now c.loop-j.j x y.coefficient y.exponents c.term-term.ensures c.times_coefficient-c.ensures c.times_monomial-m.ensures in
+    let at = changed_at times moved c.args.g.now c.loop-j.j x y.coefficient y.exponents
+    c.term-term.ensures c.times_coefficient-c.ensures c.times_monomial-m.ensures in
     let end = c.end_above-end.result.0 in
     let met = c.end_above-end.result.1 in
     let run = c.end_above-end.ensures in
@@ -118,5 +120,6 @@ returns g c =
     let last : length h ≤ c.loop-j.j = omega (arith, changed_length times moved c.args.g.now) in
     let e =
     merge_end ring (ring_positive ring c.requires.ring) f h c.loop-j.i c.loop-j.j c.requires.first last c.loop-j.invariant.within
-    (terms_in c.loop-j.sum) (terms_in c.extend-2.new.self) (canonical ring (f ++ h)) (rw (← c.len.ensures) c.in_ok-extend-2.ensures.terms) c.loop-j.invariant.sum in
+    (terms_in c.loop-j.sum) (terms_in c.extend-2.new.self) (canonical ring (f ++ h))
+    (rw (← c.len.ensures) c.in_ok-extend-2.ensures.terms) c.loop-j.invariant.sum in
     c.finish.ensures ∙ e

@@ -9,5 +9,6 @@ invariant-loop-j g l = record {
   flat : IsFlat l.sum;
   places : l.sum.places ≡ places l.ring;
   within : l.i ≤ length l.f;
-  sum : terms_in l.sum ++ canonical l.ring (drop l.i l.f ++ drop l.j (changed (g.M.Multiple.coefficient l.by l.ring.modulus) (g.M.Multiple.monomial l.by) l.g)) ≡ canonical l.ring (l.f ++ changed (g.M.Multiple.coefficient l.by l.ring.modulus) (g.M.Multiple.monomial l.by) l.g);
+  sum : terms_in l.sum ++ canonical l.ring (drop l.i l.f ++ drop l.j (changed (g.M.Multiple.coefficient l.by l.ring.modulus) (g.M.Multiple.monomial l.by) l.g))
+      ≡ canonical l.ring (l.f ++ changed (g.M.Multiple.coefficient l.by l.ring.modulus) (g.M.Multiple.monomial l.by) l.g);
 }

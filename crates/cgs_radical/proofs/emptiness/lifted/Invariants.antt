@@ -1,8 +1,7 @@
 use Rattle.std.proofs.Common.{◌≡◌, take}
-use Rattle.std.specs.List.{AllByRecursion}
-use Rattle.cgs_poly.specs.Polynomial.{IsPoly}
+use Rattle.cgs_poly.specs.Polynomial.{ArePolys}
 use Rattle.cgs_radical.specs.EmptinessRun.{with_y}
 use Rattle.cgs_radical.proofs.emptiness.lifted.Given as goal
 
 abbrev pub invariant-loop-i : goal.invariant-loop-i
-invariant-loop-i l = record { lifted : l.polys ≡ with_y l.ring (take l.i l.list); polys : AllByRecursion (IsPoly l.above) l.polys }
+invariant-loop-i l = record { lifted : l.polys ≡ with_y l.ring (take l.i l.list); polys : ArePolys l.above l.polys }

@@ -7,16 +7,21 @@ use Rattle.cgs_radical.proofs.TestLemmas.{conditions_parametric, contradiction_e
 use Rattle.cgs_radical.proofs.emptiness.test_empty.Goals as goal
 use Rattle.cgs_radical.proofs.emptiness.test_empty.Goals.{In_ok-empty}
 
-ran : (c : In_ok-empty) → emptiness_run c.args.ring.now c.args.conditions.now.zero c.args.conditions.now.nonzero c.args.fuel.now ≡ ended c.in_ok-empty.empty c.contradicts.new.fuel
+ran : (c : In_ok-empty) → emptiness_run c.args.ring.now c.args.conditions.now.zero c.args.conditions.now.nonzero c.args.fuel.now
+    ≡ ended c.in_ok-empty.empty c.contradicts.new.fuel
 ran c =
-    contradiction_ends c.args.ring.now c.with_y-above.result c.args.conditions.now.zero c.args.conditions.now.nonzero c.in_ok-zero.zero c.in_ok-nonzero.nonzero c.in_ok-start.start c.args.fuel.now
-    c.with_y-above.ensures.ring c.in_ok-zero.ensures.ok c.in_ok-nonzero.ensures.ok c.in_ok-start.ensures.one c.in_ok-basis.basis c.in_ok-q.q c.reduced_basis.new.fuel c.products_remainder.new.fuel (ended c.in_ok-empty.empty c.contradicts.new.fuel)
+    contradiction_ends c.args.ring.now c.with_y-above.result c.args.conditions.now.zero c.args.conditions.now.nonzero
+    c.in_ok-zero.zero c.in_ok-nonzero.nonzero c.in_ok-start.start c.args.fuel.now
+    c.with_y-above.ensures.ring c.in_ok-zero.ensures.ok c.in_ok-nonzero.ensures.ok c.in_ok-start.ensures.one c.in_ok-basis.basis c.in_ok-q.q
+    c.reduced_basis.new.fuel c.products_remainder.new.fuel (ended c.in_ok-empty.empty c.contradicts.new.fuel)
     c.in_ok-basis.ensures.ok c.in_ok-q.ensures.ok c.in_ok-empty.ensures.ok
 
 decides : (c : In_ok-empty) → IsTrue c.in_ok-empty.empty ↔ Contradict c.args.ring.now c.args.conditions.now.zero c.args.conditions.now.nonzero
 decides c =
-    empty_is_contradiction c.args.ring.now c.args.conditions.now.zero c.args.conditions.now.nonzero c.args.fuel.now c.contradicts.new.fuel c.in_ok-empty.empty c.requires.ring
-    (conditions_parametric c.args.ring.now c.args.conditions.now.zero c.requires.zero) (conditions_parametric c.args.ring.now c.args.conditions.now.nonzero c.requires.nonzero) (ran c)
+    empty_is_contradiction c.args.ring.now c.args.conditions.now.zero c.args.conditions.now.nonzero
+    c.args.fuel.now c.contradicts.new.fuel c.in_ok-empty.empty c.requires.ring
+    (conditions_parametric c.args.ring.now c.args.conditions.now.zero c.requires.zero)
+    (conditions_parametric c.args.ring.now c.args.conditions.now.nonzero c.requires.nonzero) (ran c)
 
 pub returns-clause-exact : goal.returns-clause-exact
 returns-clause-exact c = decides (goal.at.returns-clause-exact c).In_ok-empty
@@ -24,5 +29,6 @@ returns-clause-exact c = decides (goal.at.returns-clause-exact c).In_ok-empty
 pub returns-clause-no_point : goal.returns-clause-no_point
 returns-clause-no_point c = λ t a point.
     contradiction_has_no_point c.args.ring.now c.args.conditions.now.zero c.args.conditions.now.nonzero a c.requires.ring
-    (conditions_parametric c.args.ring.now c.args.conditions.now.zero c.requires.zero) (conditions_parametric c.args.ring.now c.args.conditions.now.nonzero c.requires.nonzero)
+    (conditions_parametric c.args.ring.now c.args.conditions.now.zero c.requires.zero)
+    (conditions_parametric c.args.ring.now c.args.conditions.now.nonzero c.requires.nonzero)
     ((decides (goal.at.returns-clause-no_point c).In_ok-empty).0 t)

@@ -9,7 +9,9 @@ loop-i-preserved c =
     elim c.if-not-has_no_variables.branch [
       | then-not-has_no_variables+in_ok-copy+in_ok-push w ↦
           w.kept-is ∙ (w.in_ok-push.ensures.ok ∙ (ap (λ h. c.loop-i.kept ++ h ∷ []) w.in_ok-copy.ensures
-          ∙ (ap (λ L. L ++ c.get-g.result.now ∷ []) c.loop-i.invariant ∙ other_next c.args.ring.now c.args.list.now c.loop-i.i c.get-g.result.now c.get-g.ensures (test ∙ w.if-not-has_no_variables.true))))
+          ∙ (ap (λ L. L ++ c.get-g.result.now ∷ []) c.loop-i.invariant
+          ∙ other_next c.args.ring.now c.args.list.now c.loop-i.i c.get-g.result.now c.get-g.ensures (test ∙ w.if-not-has_no_variables.true))))
       | else-not-has_no_variables w ↦
-          w.kept-is ∙ (c.loop-i.invariant ∙ other_skip c.args.ring.now c.args.list.now c.loop-i.i c.get-g.result.now c.get-g.ensures (test ∙ w.if-not-has_no_variables.false))
+          w.kept-is ∙ (c.loop-i.invariant
+          ∙ other_skip c.args.ring.now c.args.list.now c.loop-i.i c.get-g.result.now c.get-g.ensures (test ∙ w.if-not-has_no_variables.false))
     ]

@@ -5,4 +5,5 @@ use Rattle.cgs_split.proofs.lists.with_condition.Goals as goal
 
 pub returns-clause-conditions : goal.returns-clause-conditions
 returns-clause-conditions c =
-    c.in_ok-add.ensures.conditions (subst (λ L. AllByRecursion (IsCondition c.args.ring.now) L) (sym c.in_ok-longer.ensures) c.requires.conditions) c.requires.condition
+    c.in_ok-add.ensures.conditions (subst (λ L. AllByRecursion (IsCondition c.args.ring.now) L) (sym c.in_ok-longer.ensures) c.requires.conditions)
+    c.requires.condition

@@ -4,7 +4,6 @@ use Rattle.cgs_poly.specs.Polynomial.{term}
 use Rattle.cgs_poly.proofs.PlaceLemmas.{length_at, take_one}
 use Rattle.cgs_poly.proofs.DraftLemmas.{extended}
 use Rattle.cgs_poly.proofs.draft.Draft.extend.Goals as goal
-use Rattle.cgs_poly.proofs.draft.Draft.extend.Goals.{After-f}
 
 pub offset_bounds-deref-from : goal.offset_bounds-deref-from
 offset_bounds-deref-from c =
@@ -19,7 +18,8 @@ slice_bounds-extend_from_slice-end c =
 
 pub part-requires-clause-within : goal.part-requires-clause-within
 part-requires-clause-within c =
-    rw c.deref-2.ensures.value (part_fits c.f.inside.places c.args.to c.f.inside.coefficients.items c.f.inside.exponents.items c.args.f.now c.f.view_is c.f.invariant c.requires.within)
+    rw c.deref-2.ensures.value
+    (part_fits c.f.inside.places c.args.to c.f.inside.coefficients.items c.f.inside.exponents.items c.args.f.now c.f.view_is c.f.invariant c.requires.within)
 
 pub push-requires-clause-places : goal.push-requires-clause-places
 push-requires-clause-places c =
@@ -33,6 +33,10 @@ returns-then-to-from-eq1 c =
 
 pub returns : goal.returns
 returns c =
-    extended c.args.self.now _ c.f.inside.places c.args.from c.args.to c.f.inside.coefficients.items c.f.inside.exponents.items c.args.f.now c.requires.flat c.f.view_is c.f.invariant c.requires.places c.requires.rising c.requires.within refl
-    (c.in_ok-extend_from_slice.ensures.items ∙ ap (λ cs. c.args.self.now.coefficients.items ++ take (c.args.to - c.args.from) (drop c.args.from cs)) c.deref.ensures.value)
-    (c.in_ok-extend_from_slice-2.ensures.items ∙ ap (λ es. c.args.self.now.exponents.items ++ es) (c.part.ensures ∙ ap (λ es. take ((c.args.to - c.args.from) * c.f.inside.places) (drop (c.args.from * c.f.inside.places) es)) c.deref-2.ensures.value))
+    extended c.args.self.now _ c.f.inside.places c.args.from c.args.to c.f.inside.coefficients.items c.f.inside.exponents.items
+    c.args.f.now c.requires.flat c.f.view_is c.f.invariant c.requires.places c.requires.rising c.requires.within refl
+    (c.in_ok-extend_from_slice.ensures.items
+    ∙ ap (λ cs. c.args.self.now.coefficients.items ++ take (c.args.to - c.args.from) (drop c.args.from cs)) c.deref.ensures.value)
+    (c.in_ok-extend_from_slice-2.ensures.items
+    ∙ ap (λ es. c.args.self.now.exponents.items ++ es) (c.part.ensures
+    ∙ ap (λ es. take ((c.args.to - c.args.from) * c.f.inside.places) (drop (c.args.from * c.f.inside.places) es)) c.deref-2.ensures.value))

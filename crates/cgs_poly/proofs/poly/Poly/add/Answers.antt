@@ -20,10 +20,13 @@ returns-clause-sum c = sum_is c
 
 pub returns-clause-poly : goal.returns-clause-poly
 returns-clause-poly c =
-    subst (λ h. IsPoly c.args.ring.now h) (sym (sum_is c)) (poly_sum c.args.ring.now c.args.f.now c.args.g.now (ring_positive c.args.ring.now c.requires.ring) c.requires.first c.requires.second)
+    subst (λ h. IsPoly c.args.ring.now h) (sym (sum_is c))
+    (poly_sum c.args.ring.now c.args.f.now c.args.g.now (ring_positive c.args.ring.now c.requires.ring) c.requires.first c.requires.second)
 
 pub returns-clause-coefficients : goal.returns-clause-coefficients
 returns-clause-coefficients c = λ m.
     let pos = ring_positive c.args.ring.now c.requires.ring in
-    let of = append_of_ring c.args.ring.now c.args.f.now c.args.g.now (canonical_of_ring c.args.ring.now c.args.f.now c.requires.first.canonical) (canonical_of_ring c.args.ring.now c.args.g.now c.requires.second.canonical) in
-    ap (λ h. coefficient c.args.ring.now.modulus h m) (sum_is c) ∙ (coefficient_canonical c.args.ring.now (c.args.f.now ++ c.args.g.now) m pos of ∙ coefficient_append c.args.ring.now.modulus c.args.f.now c.args.g.now m)
+    let of = append_of_ring c.args.ring.now c.args.f.now c.args.g.now (canonical_of_ring c.args.ring.now c.args.f.now c.requires.first.canonical)
+    (canonical_of_ring c.args.ring.now c.args.g.now c.requires.second.canonical) in
+    ap (λ h. coefficient c.args.ring.now.modulus h m) (sum_is c)
+    ∙ (coefficient_canonical c.args.ring.now (c.args.f.now ++ c.args.g.now) m pos of ∙ coefficient_append c.args.ring.now.modulus c.args.f.now c.args.g.now m)

@@ -24,7 +24,8 @@ fits c =
 
 low : (c : Else-exceeds) → HasLowDegrees (all_products c.args.f.now c.args.g.now)
 low c =
-    low_products (places c.args.ring.now) c.args.f.now c.args.g.now (canonical_length c.args.ring.now c.args.f.now c.requires.first.canonical) (canonical_length c.args.ring.now c.args.g.now c.requires.second.canonical) (fits c)
+    low_products (places c.args.ring.now) c.args.f.now c.args.g.now (canonical_length c.args.ring.now c.args.f.now c.requires.first.canonical)
+    (canonical_length c.args.ring.now c.args.g.now c.requires.second.canonical) (fits c)
 
 pub returns-then-exceeds-clause-degree : goal.returns-then-exceeds-clause-degree
 returns-then-exceeds-clause-degree c =
@@ -32,7 +33,8 @@ returns-then-exceeds-clause-degree c =
       (λ e l.
           omega (
             arith,
-            products_low (places c.args.ring.now) c.args.f.now c.args.g.now (canonical_length c.args.ring.now c.args.f.now c.requires.first.canonical) (canonical_length c.args.ring.now c.args.g.now c.requires.second.canonical) (omega arith) q.0 l,
+            products_low (places c.args.ring.now) c.args.f.now c.args.g.now (canonical_length c.args.ring.now c.args.f.now c.requires.first.canonical)
+                (canonical_length c.args.ring.now c.args.g.now c.requires.second.canonical) (omega arith) q.0 l,
             q.1,
             c.top_degree.ensures,
           )),
@@ -43,8 +45,10 @@ pub product_of-requires-clause-low : goal.product_of-requires-clause-low
 product_of-requires-clause-low c = fits (goal.at.product_of-requires-clause-low c).Else-exceeds
 
 pub returns-in_err-product-clause-degree : goal.returns-in_err-product-clause-degree
-returns-in_err-product-clause-degree c =
-    ((λ e l. not_of_degree c.from_residual.result c.from_residual.ensures.1 e), (λ n. absurd (n (low (goal.at.returns-in_err-product-clause-degree c).Else-exceeds))))
+returns-in_err-product-clause-degree c = (
+  (λ e l. not_of_degree c.from_residual.result c.from_residual.ensures.1 e),
+  (λ n. absurd (n (low (goal.at.returns-in_err-product-clause-degree c).Else-exceeds))),
+)
 
 pub returns-clause-degree : goal.returns-clause-degree
 returns-clause-degree c = ((λ e l. cc), (λ n. absurd (n (low (goal.at.returns-clause-degree c).Else-exceeds))))
@@ -57,4 +61,5 @@ returns-clause-coefficients c = λ n.
     let t : take (c.len-2.result - 0) (drop 0 c.args.f.now) ≡ c.args.f.now = take_all (c.len-2.result - 0) c.args.f.now (omega (arith, c.len-2.ensures)) in
     ap (λ h. coefficient c.args.ring.now.modulus h n) (c.in_ok-product.ensures.product ∙ ap (λ f. canonical c.args.ring.now (all_products f c.args.g.now)) t)
     ∙ coefficient_canonical c.args.ring.now (all_products c.args.f.now c.args.g.now) n (ring_positive c.args.ring.now c.requires.ring)
-    (products_of_ring c.args.ring.now c.args.f.now c.args.g.now (canonical_of_ring c.args.ring.now c.args.f.now c.requires.first.canonical) (canonical_of_ring c.args.ring.now c.args.g.now c.requires.second.canonical))
+    (products_of_ring c.args.ring.now c.args.f.now c.args.g.now (canonical_of_ring c.args.ring.now c.args.f.now c.requires.first.canonical)
+    (canonical_of_ring c.args.ring.now c.args.g.now c.requires.second.canonical))

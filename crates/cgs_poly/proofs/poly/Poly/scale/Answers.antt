@@ -14,7 +14,8 @@ pub multiplied-requires-clause-can : goal.multiplied-requires-clause-can
 multiplied-requires-clause-can c = each_so (c.args.c < c.args.ring.now.modulus) c.requires.below c.args.f.now
 
 pub multiplied-requires-clause-multiple : goal.multiplied-requires-clause-multiple
-multiplied-requires-clause-multiple c = scaled_canonical c.args.ring.now c.args.c c.args.f.now c.requires.ring (omega arith) c.requires.below c.requires.poly.canonical
+multiplied-requires-clause-multiple c =
+    scaled_canonical c.args.ring.now c.args.c c.args.f.now c.requires.ring (omega arith) c.requires.below c.requires.poly.canonical
 
 multiple_is : (c : In_ok-scaled) → c.in_ok-scaled.scaled ≡ canonical c.args.ring.now (scaled c.args.c c.args.f.now)
 multiple_is c =
@@ -25,8 +26,10 @@ pub returns-clause-multiple : goal.returns-clause-multiple
 returns-clause-multiple c = multiple_is c
 
 pub returns-clause-poly : goal.returns-clause-poly
-returns-clause-poly c = subst (λ h. IsPoly c.args.ring.now h) (sym (multiple_is c)) (scaled_poly c.args.ring.now c.args.c c.args.f.now c.requires.ring c.requires.poly)
+returns-clause-poly c =
+    subst (λ h. IsPoly c.args.ring.now h) (sym (multiple_is c)) (scaled_poly c.args.ring.now c.args.c c.args.f.now c.requires.ring c.requires.poly)
 
 pub returns-clause-coefficients : goal.returns-clause-coefficients
 returns-clause-coefficients c = λ m.
-    ap (λ h. coefficient c.args.ring.now.modulus h m) (multiple_is c) ∙ coefficient_scaled c.args.ring.now c.args.c c.args.f.now m c.requires.ring (canonical_of_ring c.args.ring.now c.args.f.now c.requires.poly.canonical)
+    ap (λ h. coefficient c.args.ring.now.modulus h m) (multiple_is c)
+    ∙ coefficient_scaled c.args.ring.now c.args.c c.args.f.now m c.requires.ring (canonical_of_ring c.args.ring.now c.args.f.now c.requires.poly.canonical)

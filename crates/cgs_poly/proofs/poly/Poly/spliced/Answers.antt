@@ -4,11 +4,14 @@ use Rattle.cgs_poly.proofs.poly.Poly.spliced.Goals as goal
 
 pub part-first-requires-clause-within : goal.part-first-requires-clause-within
 part-first-requires-clause-within c =
-    rw c.deref.ensures.value (part_fits c.f.inside.places c.len.result c.f.inside.coefficients.items c.f.inside.exponents.items c.args.f.now c.f.view_is c.f.invariant (omega (arith, c.len.ensures)))
+    rw c.deref.ensures.value
+    (part_fits c.f.inside.places c.len.result c.f.inside.coefficients.items c.f.inside.exponents.items
+    c.args.f.now c.f.view_is c.f.invariant (omega (arith, c.len.ensures)))
 
 pub part-second-requires-clause-within : goal.part-second-requires-clause-within
 part-second-requires-clause-within c =
-    rw c.deref-2.ensures.value (part_fits c.g.inside.places c.args.to c.g.inside.coefficients.items c.g.inside.exponents.items c.args.g.now c.g.view_is c.g.invariant c.requires.within)
+    rw c.deref-2.ensures.value
+    (part_fits c.g.inside.places c.args.to c.g.inside.coefficients.items c.g.inside.exponents.items c.args.g.now c.g.view_is c.g.invariant c.requires.within)
 
 pub overflow_add-terms : goal.overflow_add-terms
 overflow_add-terms c =

@@ -34,12 +34,14 @@ pub merge-requires-clause-can : goal.merge-requires-clause-can
 merge-requires-clause-can c =
     let h : HaveLength (length c.args.m.now) c.args.g.now = rw c.requires.places (canonical_length c.args.ring.now c.args.g.now c.requires.second.canonical) in
     let few : length c.args.m.now ≤ 17 = omega (arith, c.requires.places, places_few c.args.ring.now c.requires.ring) in
-    can_multiply c.neg.result c.args.ring.now.modulus c.args.m.now c.args.g.now c.neg.ensures.below few h (fits (goal.at.merge-requires-clause-can c).Else-exceeds)
+    can_multiply c.neg.result c.args.ring.now.modulus c.args.m.now c.args.g.now c.neg.ensures.below
+    few h (fits (goal.at.merge-requires-clause-can c).Else-exceeds)
 
 pub merge-requires-clause-second : goal.merge-requires-clause-second
 merge-requires-clause-second c =
     let o = opposite (goal.at.merge-requires-clause-second c).After-neg in
-    multiple_canonical c.args.ring.now c.neg.result c.args.m.now c.args.g.now c.requires.ring (omega (arith, o, c.requires.below)) c.neg.ensures.below c.requires.places c.requires.second.canonical
+    multiple_canonical c.args.ring.now c.neg.result c.args.m.now c.args.g.now c.requires.ring
+    (omega (arith, o, c.requires.below)) c.neg.ensures.below c.requires.places c.requires.second.canonical
 
 pub returns-in_err-difference-clause-degree : goal.returns-in_err-difference-clause-degree
 returns-in_err-difference-clause-degree c =
@@ -47,24 +49,29 @@ returns-in_err-difference-clause-degree c =
     let low = low_if_any c.args.c c.args.m.now c.args.g.now h (fits (goal.at.returns-in_err-difference-clause-degree c).Else-exceeds) in
     ((λ e l. not_of_degree c.from_residual.result c.from_residual.ensures.1 e), (λ n. absurd (n low)))
 
-difference_is : (c : In_ok-difference) → c.in_ok-difference.difference ≡ canonical c.args.ring.now (c.args.f.now ++ multiple (c.args.ring.now.modulus - c.args.c) c.args.m.now c.args.g.now)
+difference_is : (c : In_ok-difference)
+    → c.in_ok-difference.difference ≡ canonical c.args.ring.now (c.args.f.now ++ multiple (c.args.ring.now.modulus - c.args.c) c.args.m.now c.args.g.now)
 difference_is c =
     let o : c.neg.result ≡ c.args.ring.now.modulus - c.args.c = c.neg.ensures.value ∙ mod-eq_of_lt (omega (arith, c.requires.positive, c.requires.below)) in
     c.in_ok-difference.ensures
-    ∙ (canonical_with_multiple c.args.ring.now c.neg.result c.args.m.now c.args.f.now c.args.g.now c.requires.ring (omega (arith, o, c.requires.below)) c.neg.ensures.below c.requires.places c.requires.first.canonical c.requires.second.canonical
+    ∙ (canonical_with_multiple c.args.ring.now c.neg.result c.args.m.now c.args.f.now c.args.g.now c.requires.ring (omega (arith, o, c.requires.below))
+    c.neg.ensures.below c.requires.places c.requires.first.canonical c.requires.second.canonical
     ∙ ap (λ k. canonical c.args.ring.now (c.args.f.now ++ multiple k c.args.m.now c.args.g.now)) o)
 
 of_ring : (c : In_ok-difference) → IsOfRing c.args.ring.now (c.args.f.now ++ multiple (c.args.ring.now.modulus - c.args.c) c.args.m.now c.args.g.now)
 of_ring c =
     let ring = c.args.ring.now in
-    append_of_ring c.args.ring.now c.args.f.now (multiple (c.args.ring.now.modulus - c.args.c) c.args.m.now c.args.g.now) (canonical_of_ring c.args.ring.now c.args.f.now c.requires.first.canonical)
-    (multiple_of_ring c.args.ring.now (c.args.ring.now.modulus - c.args.c) c.args.m.now c.args.g.now c.requires.places (canonical_of_ring c.args.ring.now c.args.g.now c.requires.second.canonical))
+    append_of_ring c.args.ring.now c.args.f.now (multiple (c.args.ring.now.modulus - c.args.c) c.args.m.now c.args.g.now)
+    (canonical_of_ring c.args.ring.now c.args.f.now c.requires.first.canonical)
+    (multiple_of_ring c.args.ring.now (c.args.ring.now.modulus - c.args.c) c.args.m.now c.args.g.now
+    c.requires.places (canonical_of_ring c.args.ring.now c.args.g.now c.requires.second.canonical))
 
 -- the multiple is low
 low : (c : In_ok-difference) (d : ℕ) → HasLowDegrees (multiple d c.args.m.now c.args.g.now)
 low c d =
     let h : HaveLength (length c.args.m.now) c.args.g.now = rw c.requires.places (canonical_length c.args.ring.now c.args.g.now c.requires.second.canonical) in
-    low_if_any d c.args.m.now c.args.g.now h (fits_unless c.exceeds.result (degree c.args.m.now) c.degree.result c.args.g.now c.degree.ensures c.if-exceeds.false c.exceeds.ensures.1)
+    low_if_any d c.args.m.now c.args.g.now h
+    (fits_unless c.exceeds.result (degree c.args.m.now) c.degree.result c.args.g.now c.degree.ensures c.if-exceeds.false c.exceeds.ensures.1)
 
 pub returns-clause-difference : goal.returns-clause-difference
 returns-clause-difference c = difference_is c
@@ -72,8 +79,10 @@ returns-clause-difference c = difference_is c
 pub returns-clause-poly : goal.returns-clause-poly
 returns-clause-poly c =
     let p : IsPoly c.args.ring.now (canonical c.args.ring.now (c.args.f.now ++ multiple (c.args.ring.now.modulus - c.args.c) c.args.m.now c.args.g.now)) =
-    canonical_poly c.args.ring.now (c.args.f.now ++ multiple (c.args.ring.now.modulus - c.args.c) c.args.m.now c.args.g.now) (ring_positive c.args.ring.now c.requires.ring) (of_ring c)
-    (append_low c.args.f.now (multiple (c.args.ring.now.modulus - c.args.c) c.args.m.now c.args.g.now) c.requires.first.low (low c (c.args.ring.now.modulus - c.args.c))) in
+    canonical_poly c.args.ring.now (c.args.f.now ++ multiple (c.args.ring.now.modulus - c.args.c) c.args.m.now c.args.g.now)
+    (ring_positive c.args.ring.now c.requires.ring) (of_ring c)
+    (append_low c.args.f.now (multiple (c.args.ring.now.modulus - c.args.c) c.args.m.now c.args.g.now)
+    c.requires.first.low (low c (c.args.ring.now.modulus - c.args.c))) in
     subst (λ h. IsPoly c.args.ring.now h) (sym (difference_is c)) p
 
 pub returns-clause-degree : goal.returns-clause-degree
@@ -84,5 +93,6 @@ returns-clause-low c = low c c.args.c
 
 pub returns-clause-coefficients : goal.returns-clause-coefficients
 returns-clause-coefficients c = λ n.
-    ap (λ h. (coefficient c.args.ring.now.modulus h n + coefficient c.args.ring.now.modulus (multiple c.args.c c.args.m.now c.args.g.now) n) % c.args.ring.now.modulus) (difference_is c)
+    ap (λ h. (coefficient c.args.ring.now.modulus h n + coefficient c.args.ring.now.modulus (multiple c.args.c c.args.m.now c.args.g.now) n)
+    % c.args.ring.now.modulus) (difference_is c)
     ∙ difference_back c.args.ring.now c.args.c c.args.m.now n c.args.f.now c.args.g.now c.requires.ring c.requires.below (of_ring c)

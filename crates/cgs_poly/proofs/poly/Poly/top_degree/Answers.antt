@@ -9,7 +9,8 @@ max_is : (a b : ℕ) → ord_max nat_cmp a b ≡ max a b
 max_is a b = grind (arith, nat_tests)
 
 pub degree-requires : goal.degree-requires
-degree-requires c = each_at (λ d m. length m ≤ 17) c.loop-i.i c.args.self.now (term c.term.result.coefficient c.term.result.exponents.now) c.requires c.term.ensures
+degree-requires c =
+    each_at (λ d m. length m ≤ 17) c.loop-i.i c.args.self.now (term c.term.result.coefficient c.term.result.exponents.now) c.requires c.term.ensures
 
 pub loop-i-preserved : goal.loop-i-preserved
 loop-i-preserved c =

@@ -9,4 +9,5 @@ pub returns : goal.returns
 returns c =
     let whole = c.in_ok-whole.ensures.ok ∙ ap (λ ring. one ring ∷ []) (ap (λ (k : Case). k.ring) c.self.view_is) in
     divided_is c.args.self.now c.args.path.now c.args.basis c.in_ok-children.children.items
-    (alone_is_one c.args.self.now.ring c.args.basis c.in_ok-whole.whole c.are_same.result whole c.are_same.ensures ∙ c.if-are_same.false) c.in_ok-children.ensures
+    (alone_is_one c.args.self.now.ring c.args.basis c.in_ok-whole.whole c.are_same.result whole c.are_same.ensures
+    ∙ c.if-are_same.false) c.in_ok-children.ensures

@@ -13,6 +13,7 @@ given_front bytes front rest at count e le =
     rw (take_at front rest count len, e, ← drop-drop count at bytes) (sym (take-append-drop count (drop at bytes)))
 
 -- a text's next bytes were appended after those before a place
-pub appends_more : (a b c : Option (List ℕ)) (text : List ℕ) (at count : ℕ) → Appends a b (take at text) → Appends b c (take count (drop at text)) → Appends a c (take (at + count) text)
+pub appends_more : (a b c : Option (List ℕ)) (text : List ℕ) (at count : ℕ) → Appends a b (take at text) → Appends b c (take count (drop at text))
+    → Appends a c (take (at + count) text)
 appends_more a b c text at count before next =
     subst (Appends a c) (sym (take-add at count text)) (Appends-trans a b c (take at text) (take count (drop at text)) before next)

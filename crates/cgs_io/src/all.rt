@@ -1,6 +1,6 @@
 //! Reading all that there is, and writing a whole text.
 
-ghost use Rattle.std.specs.Prelude.{◌≡◌, ◌≤◌, ◌<◌, OnOk, OnErr};
+ghost use Rattle.std.specs.Prelude.{◌≤◌, ◌<◌, OnOk, OnErr};
 ghost use Rattle.std.specs.Io.KnownBytes.{Appends};
 ghost use Rattle.cgs_io.specs.Causes.{HasCause};
 ghost use Rattle.cgs_io.specs.Streams.{IsReading, ReadCause, AppendsPrefix};

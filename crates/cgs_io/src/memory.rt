@@ -1,6 +1,6 @@
 //! Sources and sinks in memory, which fail where they are told to.
 
-ghost use Rattle.std.specs.Prelude.{ℕ, ◌≡◌, ◌+◌, ◌-◌, ◌≤◌, ◌<◌, ◌↔◌, ◌⊎◌, [], length, min, IfOk, IsErr, IsTrue, Some, vec_capacity};
+ghost use Rattle.std.specs.Prelude.{◌≡◌, ◌-◌, ◌≤◌, ◌<◌, ◌↔◌, ◌⊎◌, [], length, min, IfOk, IsErr, IsTrue, Some, vec_capacity};
 ghost use Rattle.std.specs.Io.KnownBytes.{ReadConsumes, WriteAppends};
 ghost use Rattle.cgs_io.specs.Causes.{HasCause};
 ghost use Rattle.cgs_io.specs.Memory.{is_listed, IsNextCall};

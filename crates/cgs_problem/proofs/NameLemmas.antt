@@ -14,7 +14,8 @@ not_unlike x [] e all = cc
 not_unlike x (y ∷ ys) e all = not_unlike x ys (rw all.0 at e) all.1
 
 -- a step at which a name does not come again, one at which it does, and the end
-pub new_name : (all : Type 0) (x : List ℕ) (ys : List (List ℕ)) → list_any (bytes_eq x) ys ≡ false → (IsDistinct bytes_eq (x ∷ ys) ↔ all) → IsDistinct bytes_eq ys ↔ all
+pub new_name : (all : Type 0) (x : List ℕ) (ys : List (List ℕ)) → list_any (bytes_eq x) ys ≡ false → (IsDistinct bytes_eq (x ∷ ys) ↔ all)
+    → IsDistinct bytes_eq ys ↔ all
 unfolding IsDistinct
 new_name all x ys e so_far = ((λ rest. so_far.0 (unlike x ys e, rest)), (λ whole. (so_far.1 whole).1))
 

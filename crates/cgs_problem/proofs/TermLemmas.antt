@@ -39,17 +39,20 @@ poly_of ring f terms falls = record { canonical = canonical_of ring f terms fall
 pub ring_places : (ring : Ring) → IsRing ring → places ring ≤ 17
 ring_places ring valid = omega (arith, valid.variables, valid.parameters)
 
-pub term_length : (ring : Ring) (f : List Term) (i : ℕ) (x : Term) → AllByRecursion (IsTermOf ring) f → slice_get f i ≡ Some x → length x.exponents ≡ places ring
+pub term_length : (ring : Ring) (f : List Term) (i : ℕ) (x : Term) → AllByRecursion (IsTermOf ring) f → slice_get f i ≡ Some x
+    → length x.exponents ≡ places ring
 term_length ring f i x terms e = (all_at (IsTermOf ring) f i x terms e).long
 
 pub poly_length : (ring : Ring) (f : List Term) (i : ℕ) (x : Term) → IsPoly ring f → slice_get f i ≡ Some x → length x.exponents ≡ places ring
 poly_length ring f i x poly e = term_length ring f i x (poly_terms ring f poly) e
 
-pub compared_in : (ring : Ring) (order : BlockOrder) (a b : List ℕ) (answer : Ordering) → answer ≡ compared order a b → order ≡ order_of ring → answer ≡ compared (order_of ring) a b
+pub compared_in : (ring : Ring) (order : BlockOrder) (a b : List ℕ) (answer : Ordering) → answer ≡ compared order a b → order ≡ order_of ring
+    → answer ≡ compared (order_of ring) a b
 compared_in ring order a b answer e same = e ∙ ap (λ (o : BlockOrder). compared o a b) same
 
 -- the two terms that a step compares, before the rest
-two_at : (ring : Ring) (all : Type 0) (f : List Term) (i : ℕ) (x y : Term) → 1 ≤ i → slice_get f (i - 1) ≡ Some x → slice_get f i ≡ Some y → (Falls ring (drop (i - 1) f) ↔ all)
+two_at : (ring : Ring) (all : Type 0) (f : List Term) (i : ℕ) (x y : Term) → 1 ≤ i → slice_get f (i - 1) ≡ Some x → slice_get f i ≡ Some y
+    → (Falls ring (drop (i - 1) f) ↔ all)
     → ((compared (order_of ring) y.exponents x.exponents ≡ Less) × Falls ring (drop i f)) ↔ all
 two_at ring all f i x y one ex ey so_far =
     let next : i - 1 + 1 ≡ i = omega arith in
@@ -59,14 +62,16 @@ two_at ring all f i x y one ex ey so_far =
     subst (λ g. ((compared (order_of ring) y.exponents x.exponents ≡ Less) × Falls ring g) ↔ all) (sym second) here
 
 -- a step at which the monomials fall, one at which they do not, and the end
-pub falls_on : (ring : Ring) (all : Type 0) (f : List Term) (i : ℕ) (x y : Term) → 1 ≤ i → slice_get f (i - 1) ≡ Some x → slice_get f i ≡ Some y → compared (order_of ring) y.exponents x.exponents ≡ Less
+pub falls_on : (ring : Ring) (all : Type 0) (f : List Term) (i : ℕ) (x y : Term) → 1 ≤ i → slice_get f (i - 1) ≡ Some x → slice_get f i ≡ Some y
+    → compared (order_of ring) y.exponents x.exponents ≡ Less
     → (Falls ring (drop (i - 1) f) ↔ all) → Falls ring (drop (i + 1 - 1) f) ↔ all
 falls_on ring all f i x y one ex ey less so_far =
     let here = two_at ring all f i x y one ex ey so_far in
     let same : i ≡ i + 1 - 1 = omega arith in
     subst (λ k. Falls ring (drop k f) ↔ all) same ((λ rest. here.0 (less, rest)), (λ whole. (here.1 whole).1))
 
-pub falls_not : (ring : Ring) (all : Type 0) (f : List Term) (i : ℕ) (x y : Term) → 1 ≤ i → slice_get f (i - 1) ≡ Some x → slice_get f i ≡ Some y → ¬ (compared (order_of ring) y.exponents x.exponents ≡ Less)
+pub falls_not : (ring : Ring) (all : Type 0) (f : List Term) (i : ℕ) (x y : Term) → 1 ≤ i → slice_get f (i - 1) ≡ Some x → slice_get f i ≡ Some y
+    → ¬ (compared (order_of ring) y.exponents x.exponents ≡ Less)
     → (Falls ring (drop (i - 1) f) ↔ all) → IsTrue false ↔ all
 falls_not ring all f i x y one ex ey never so_far =
     let here = two_at ring all f i x y one ex ey so_far in

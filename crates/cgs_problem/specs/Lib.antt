@@ -1,3 +1,4 @@
+pub mod Faults
 pub mod Problems
 pub mod Terms
 pub mod Lexemes

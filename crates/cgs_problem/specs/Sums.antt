@@ -1,5 +1,7 @@
 -- A polynomial in its written form, read from the left, with its first fault.
-use Rattle.std.specs.Prelude.{ℕ, ◌+◌, ◌-◌, ◌*◌, ◌%◌, List, [], ◌∷◌, replicate, if◌then◌else◌, nat_lt, slice_index, slice_set, bytes_eq, position, Option, Some, None, Result, Ok, Err}
+use Rattle.std.specs.Prelude.{ℕ, ◌+◌, ◌-◌, ◌*◌, ◌%◌, List, [], ◌∷◌, replicate, if◌then◌else◌, nat_lt, slice_index, slice_set, bytes_eq, position, Option, Some}
+use Rattle.std.specs.Prelude.{None, Result, Ok, Err}
+use Rattle.cgs_list.specs.Results.{and_then, mapped}
 use Rattle.cgs_exps.specs.Monomial.{degree}
 use Rattle.cgs_poly.specs.declared.ring.Ring.{Ring}
 use Rattle.cgs_poly.specs.Polynomial.{Term, term, places, canonical, greatest_degree}
@@ -13,10 +15,6 @@ pub record Reader : Type 0 where
   pub names : List (List ℕ)
   pub barred : ℕ
   pub most : ℕ
-
-abbrev pub bind : {A B : Type 0} → Result A TextKind → (A → Result B TextKind) → Result B TextKind
-bind (Ok x) f = f x
-bind (Err kind) f = Err kind
 
 -- the place of a name that may stand in the line
 abbrev pub place_in : ℕ → Option ℕ → Result ℕ TextKind
@@ -47,8 +45,7 @@ abbrev pub minus_one : Reader → Term
 minus_one reader = term (reader.ring.modulus - 1) (replicate (places reader.ring) 0)
 
 abbrev pub with_term : Term → Result (List Term) TextKind → Result (List Term) TextKind
-with_term t (Ok terms) = Ok (t ∷ terms)
-with_term t (Err kind) = Err kind
+with_term t terms = mapped (λ terms. t ∷ terms) terms
 
 unfoldable mutual
   -- A factor has to come, then what follows the term so far times the factor.
@@ -56,9 +53,11 @@ unfoldable mutual
   product reader t [] = Err fault.Syntax
   product reader t (number n ∷ lexemes) = follow reader (times_number reader n t) lexemes
   product reader t (name word ∷ power ∷ number n ∷ lexemes) =
-      bind (place_of reader word) (λ place. bind (exponent_of n) (λ exponent. bind (times_power reader place exponent t) (λ next. follow reader next lexemes)))
-  product reader t (name word ∷ power ∷ lexemes) = bind (place_of reader word) (λ place. Err fault.Syntax)
-  product reader t (name word ∷ lexemes) = bind (place_of reader word) (λ place. bind (times_power reader place 1 t) (λ next. follow reader next lexemes))
+      and_then (place_of reader word) (λ place. and_then (exponent_of n)
+      (λ exponent. and_then (times_power reader place exponent t) (λ next. follow reader next lexemes)))
+  product reader t (name word ∷ power ∷ lexemes) = and_then (place_of reader word) (λ place. Err fault.Syntax)
+  product reader t (name word ∷ lexemes) =
+      and_then (place_of reader word) (λ place. and_then (times_power reader place 1 t) (λ next. follow reader next lexemes))
   product reader t (lexeme ∷ lexemes) = Err fault.Syntax
 
   -- A factor was read: the product goes on, or the next one comes, or the line ends.
@@ -71,9 +70,10 @@ unfoldable mutual
 
 -- what follows a name at a place
 unfoldable pub powered : Reader → Term → ℕ → List Lexeme → Result (List Term) TextKind
-powered reader t place (power ∷ number n ∷ lexemes) = bind (exponent_of n) (λ exponent. bind (times_power reader place exponent t) (λ next. follow reader next lexemes))
+powered reader t place (power ∷ number n ∷ lexemes) =
+    and_then (exponent_of n) (λ exponent. and_then (times_power reader place exponent t) (λ next. follow reader next lexemes))
 powered reader t place (power ∷ lexemes) = Err fault.Syntax
-powered reader t place lexemes = bind (times_power reader place 1 t) (λ next. follow reader next lexemes)
+powered reader t place lexemes = and_then (times_power reader place 1 t) (λ next. follow reader next lexemes)
 
 -- a sign that may be left out, and a product
 abbrev pub terms_said : Reader → List Lexeme → Result (List Term) TextKind
@@ -83,4 +83,4 @@ terms_said reader lexemes = product reader (one reader) lexemes
 
 -- the polynomial that the terms add up to
 abbrev pub polynomial_said : Reader → List Lexeme → Result (List Term) TextKind
-polynomial_said reader lexemes = bind (terms_said reader lexemes) (λ terms. Ok (canonical reader.ring terms))
+polynomial_said reader lexemes = and_then (terms_said reader lexemes) (λ terms. Ok (canonical reader.ring terms))

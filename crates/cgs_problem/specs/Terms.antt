@@ -4,6 +4,7 @@ use Rattle.std.specs.List.{AllByRecursion}
 use Rattle.cgs_exps.specs.Monomial.{degree}
 use Rattle.cgs_poly.specs.declared.ring.Ring.{Ring}
 use Rattle.cgs_poly.specs.Polynomial.{Term, StartsBelow, places, greatest_degree}
+use Rattle.cgs_problem.specs.Problems.{greatest_thesis_degree}
 
 -- a term that a polynomial of the ring may have
 pub record IsTermOf (ring : Ring) (x : Term) : Type 0 where
@@ -19,4 +20,4 @@ Falls ring (x ∷ f) = StartsBelow ring x.exponents f × Falls ring f
 
 -- each degree leaves room for one more
 abbrev pub HasRoom : List Term → Type 0
-HasRoom f = AllByRecursion (λ (x : Term). degree x.exponents ≤ 32766) f
+HasRoom f = AllByRecursion (λ (x : Term). degree x.exponents ≤ greatest_thesis_degree) f

@@ -1,6 +1,10 @@
 //! What may be wrong with a text.
 
-/// A kind of fault. Where several stand on one line, the tests are made in the order in which a reader meets them.
+ghost use Rattle.std.specs.Prelude.{◌≡◌};
+ghost use Rattle.cgs_problem.specs.Faults.{word_of};
+
+/// The kind of a fault of a text. Where several stand on one line, the tests are made in the order in which a reader meets
+/// them.
 #[derive(Clone, Copy, Debug, PartialEq, Eq)]
 pub enum TextKind {
     /// A line after `end` that is not passed over.
@@ -33,6 +37,31 @@ pub enum TextKind {
     Degree,
     /// The text has no line `end`.
     End,
+}
+
+impl TextKind {
+    /// The word that stands for the kind in a printed fault.
+    pub fn word(self) -> &'static [u8]
+        ensures { result.now ≡ word_of self }
+    {
+        match self {
+            TextKind::After => b"after",
+            TextKind::Byte => b"byte",
+            TextKind::Literal => b"literal",
+            TextKind::Name => b"name",
+            TextKind::Place => b"place",
+            TextKind::Syntax => b"syntax",
+            TextKind::Field => b"field",
+            TextKind::Count => b"count",
+            TextKind::Order => b"order",
+            TextKind::Thesis => b"thesis",
+            TextKind::Unknown => b"unknown",
+            TextKind::Variable => b"variable",
+            TextKind::Exponent => b"exponent",
+            TextKind::Degree => b"degree",
+            TextKind::End => b"end",
+        }
+    }
 }
 
 /// The first fault of a text, with the number of its line, counted from 1. Line 0 is the text as a whole.

@@ -11,6 +11,7 @@ mod problem;
 mod validity;
 
 pub use fault::{TextFault, TextKind};
+pub use polynomial::MAX_THESIS_DEGREE;
 pub use problem::{NameList, Problem, Text};
 pub use validity::valid;
 

@@ -14,7 +14,8 @@ use cgs_order::compare;
 use cgs_poly::{Poly, Ring};
 use std::cmp::Ordering;
 
-const MAX_THESIS_DEGREE: u32 = 32766;
+/// The greatest degree of a term of a thesis: it leaves room for one more variable.
+pub const MAX_THESIS_DEGREE: u32 = 32766;
 
 pub(crate) fn is_poly(ring: &Ring, f: &Poly) -> bool
     requires { IsRing ring.now }

@@ -2,7 +2,7 @@
 
 ghost use Rattle.std.specs.Prelude.{◌≡◌, ◌<◌, ◌↔◌, IsTrue, IfSome, bytes_eq};
 ghost use Rattle.std.specs.List.{AllByRecursion, IsDistinct, list_any};
-ghost use Rattle.cgs_poly.specs.Polynomial.{IsRing, IsPoly, places};
+ghost use Rattle.cgs_poly.specs.Polynomial.{IsRing, ArePolys};
 ghost use Rattle.cgs_poly.specs.Parameters.{IsCondition};
 ghost use Rattle.cgs_point.specs.Points.{IsPoint};
 ghost use Rattle.cgs_problem.specs.Problems.{IsProblem, IsThesis};
@@ -65,7 +65,7 @@ fn are_conditions(ring: &Ring, polys: &[Poly]) -> bool
 
 fn are_polys(ring: &Ring, polys: &[Poly]) -> bool
     requires { IsRing ring.now }
-    ensures { IsTrue result ↔ AllByRecursion (IsPoly ring.now) polys.now }
+    ensures { IsTrue result ↔ ArePolys ring.now polys.now }
 {
     polys.iter().all(|f| is_poly(ring, f))
 }

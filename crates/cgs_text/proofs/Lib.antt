@@ -1,12 +1,7 @@
-pub mod NumberLemmas
 pub mod LineLemmas
-pub mod TokenLemmas
 pub mod FactorLemmas
 pub mod TermLemmas
-pub mod SumLemmas
 pub mod MonomialLemmas
-pub mod NumbersLemmas
-pub mod DraftLemmas
 pub mod NameLemmas
 pub mod ReadingLemmas
 pub mod ReadingExamples

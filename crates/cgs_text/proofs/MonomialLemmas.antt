@@ -22,7 +22,8 @@ in_inserted : (P : List ℕ → Type 0) (ring : Ring) (c : ℕ) (m : List ℕ) (
 in_inserted P ring c m [] p h = in_kept P ring c m [] p tt
 in_inserted P ring c m (y ∷ f) p h = step (in_inserted P ring c m f p h.1) (compared (order_of ring) m y.exponents)
   where
-    step : EachMonomial P (inserted ring c m f) → (o : Ordering) → EachMonomial P (elim o [ Less ↦ y ∷ inserted ring c m f | Equal ↦ kept ring (c + y.coefficient) m f | Greater ↦ kept ring c m (y ∷ f) ])
+    step : EachMonomial P (inserted ring c m f) → (o : Ordering)
+        → EachMonomial P (elim o [ Less ↦ y ∷ inserted ring c m f | Equal ↦ kept ring (c + y.coefficient) m f | Greater ↦ kept ring c m (y ∷ f) ])
     step rest Less = (h.0, rest)
     step rest Equal = in_kept P ring (c + y.coefficient) m f p h.1
     step rest Greater = in_kept P ring c m (y ∷ f) p h

@@ -1,87 +1,44 @@
 -- The names of a line one after the other.
-use Rattle.std.proofs.Common.{◌≡◌, ℕ, ◌≤◌, Bool, true, false, cond, not, leb, ◌||◌, ◌&&◌, List, [], ◌∷◌, ◌++◌, take, drop, length, Result, Ok, Err, refl, sym, ap, ◌∙◌, subst}
+use Rattle.std.proofs.Common.{◌≡◌, ℕ, ◌≤◌, Bool, true, false, cond, not, leb, ◌||◌, ◌&&◌, List, [], ◌∷◌, ◌++◌, length, Result, Ok, Err, refl, sym, ap, ◌∙◌}
+use Rattle.std.proofs.Common.{subst}
 use Rattle.std.proofs.lemmas.Bool.{and_parts, or_parts, leb-true}
-use Rattle.std.proofs.Math.Bool.{or-true}
 use Rattle.std.proofs.lemmas.Cmp.{nat_list_eq_equiv}
-use Rattle.std.proofs.lemmas.List.{append-nil, drop_all, take_all}
+use Rattle.std.proofs.lemmas.List.{append-nil}
 use Rattle.std.proofs.lemmas.List.Folds.{list_any-append}
 use Rattle.std.proofs.lemmas.Map.Text.{is_eq-slice_cmp}
 use Rattle.std.specs.Ordering.{is_eq, nat_cmp}
 use Rattle.std.specs.Cmp.Lexicographic.{slice_cmp}
 use Rattle.std.specs.Prelude.{bytes_eq}
 use Rattle.std.specs.List.{AllByRecursion, IsDistinct, list_any}
-use Rattle.cgs_tokens.specs.declared.token.Token.{Token}
-use Rattle.cgs_tokens.specs.declared.token.TokenKind.{TokenKind}
-use Rattle.cgs_tokens.specs.declared.token.TokenKind.TheVariants as kind
+use Rattle.cgs_list.specs.Results.{and_then}
+use Rattle.cgs_tokens.specs.Lexemes.{Lexeme, name, number, plus, minus, times, power}
 use Rattle.cgs_problem.specs.declared.fault.TextKind.{TextKind}
 use Rattle.cgs_problem.specs.declared.fault.TextKind.TheVariants as fault
-use Rattle.cgs_problem.specs.Lexemes.{Lexeme, name, number, plus, minus, times, power, said_by, text_of, lexemes_of}
 use Rattle.cgs_problem.specs.Drafts.{names_said, counted}
-use Rattle.cgs_problem.specs.Sums.{bind}
-use Rattle.cgs_text.specs.Words.{texts_of}
 
 -- whether a name was given before
 abbrev pub given : List (List ℕ) → List (List ℕ) → List ℕ → Bool
 given others names word = list_any (bytes_eq word) others || list_any (bytes_eq word) names
 
-pub given_other : (others names : List (List ℕ)) (word : List ℕ) → list_any (bytes_eq word) others ≡ true → given others names word ≡ true
-given_other others names word h = rw h refl
-
-pub given_here : (others names : List (List ℕ)) (word : List ℕ) → list_any (bytes_eq word) names ≡ true → given others names word ≡ true
-given_here others names word h = rw h (or-true (list_any (bytes_eq word) others))
-
-pub not_given : (others names : List (List ℕ)) (word : List ℕ) → list_any (bytes_eq word) others ≡ false → list_any (bytes_eq word) names ≡ false → given others names word ≡ false
+pub not_given : (others names : List (List ℕ)) (word : List ℕ) → list_any (bytes_eq word) others ≡ false
+    → list_any (bytes_eq word) names ≡ false → given others names word ≡ false
 not_given others names word h k = rw (h, k) refl
 
 -- what an answer says of its opposite
-pub opposite_true : (x b : Bool) → x ≡ not b → x ≡ false → b ≡ true
-opposite_true x true e h = refl
-opposite_true x false e h = absurd (cc)
-
 pub opposite_false : (x b : Bool) → x ≡ not b → x ≡ true → b ≡ false
 opposite_false x true e h = absurd (cc)
 opposite_false x false e h = refl
 
-name_step : (others names : List (List ℕ)) (line : List ℕ) (token : Token) (left rest : List Token) → left ≡ token ∷ rest → token.kind ≡ kind.Name
-    → names_said others names (lexemes_of line left) ≡ cond (given others names (text_of line token)) (Err fault.Name) (names_said others (names ++ text_of line token ∷ []) (lexemes_of line rest))
-name_step others names line token left rest e k =
-    ap (λ ts. names_said others names (lexemes_of line ts)) e ∙ ap (λ k. names_said others names (said_by k (text_of line token) ∷ lexemes_of line rest)) k
-
 -- a new name
-pub new_name : (others names : List (List ℕ)) (line : List ℕ) (token : Token) (left rest : List Token) (total : Result (List (List ℕ)) TextKind) → left ≡ token ∷ rest → token.kind ≡ kind.Name → given others names (text_of line token) ≡ false
-    → names_said others names (lexemes_of line left) ≡ total → names_said others (names ++ text_of line token ∷ []) (lexemes_of line rest) ≡ total
-new_name others names line token left rest total e k new so_far =
-    sym (name_step others names line token left rest e k ∙ ap (λ b. cond b (Err fault.Name) (names_said others (names ++ text_of line token ∷ []) (lexemes_of line rest))) new) ∙ so_far
-
--- a name that was given before
-pub old_name : (others names : List (List ℕ)) (line : List ℕ) (token : Token) (left rest : List Token) (total : Result (List (List ℕ)) TextKind) → left ≡ token ∷ rest → token.kind ≡ kind.Name → given others names (text_of line token) ≡ true
-    → names_said others names (lexemes_of line left) ≡ total → total ≡ Err fault.Name
-old_name others names line token left rest total e k old so_far =
-    sym so_far ∙ name_step others names line token left rest e k ∙ ap (λ b. cond b (Err fault.Name) (names_said others (names ++ text_of line token ∷ []) (lexemes_of line rest))) old
-
--- no other token may come
-pub no_name : (others names : List (List ℕ)) (line : List ℕ) (token : Token) (left rest : List Token) (total : Result (List (List ℕ)) TextKind) → left ≡ token ∷ rest → (token.kind ≡ kind.Name → ⊥)
-    → names_said others names (lexemes_of line left) ≡ total → total ≡ Err fault.Syntax
-no_name others names line token left rest total e k so_far =
-    sym so_far ∙ ap (λ ts. names_said others names (lexemes_of line ts)) e ∙ by_kind token.kind (text_of line token) k
-  where
-    by_kind : (k : TokenKind) (text : List ℕ) → (k ≡ kind.Name → ⊥) → names_said others names (said_by k text ∷ lexemes_of line rest) ≡ Err fault.Syntax
-    by_kind kind.Name text other = absurd (other refl)
-    by_kind kind.Number text other = refl
-    by_kind kind.Plus text other = refl
-    by_kind kind.Minus text other = refl
-    by_kind kind.Times text other = refl
-    by_kind kind.Power text other = refl
-
-pub all_names : (others : List (List ℕ)) (line : List ℕ) (tokens : List Token) (i : ℕ) (total : Result (List (List ℕ)) TextKind) → length tokens ≤ i
-    → names_said others (texts_of line (take i tokens)) (lexemes_of line (drop i tokens)) ≡ total → total ≡ Ok (texts_of line tokens)
-all_names others line tokens i total le so_far =
-    let none : lexemes_of line (drop i tokens) ≡ [] = ap (lexemes_of line) (drop_all i tokens le) in
-    let all : texts_of line (take i tokens) ≡ texts_of line tokens = ap (texts_of line) (take_all i tokens le) in
-    sym so_far ∙ ap (names_said others (texts_of line (take i tokens))) none ∙ ap (λ (ns : List (List ℕ)). Ok ns) all
+pub new_name : (others names : List (List ℕ)) (word : List ℕ) (lexemes rest : List Lexeme) (total : Result (List (List ℕ)) TextKind)
+    → lexemes ≡ name word ∷ rest → given others names word ≡ false
+    → names_said others names lexemes ≡ total → names_said others (names ++ word ∷ []) rest ≡ total
+new_name others names word lexemes rest total e new so_far =
+    sym (ap (names_said others names) e ∙ ap (λ b. cond b (Err fault.Name) (names_said others (names ++ word ∷ []) rest)) new) ∙ so_far
 
 -- one more name was seen
-pub seen_more : (front : List (List ℕ)) (word other : List ℕ) (seen : Bool) → seen ≡ list_any (bytes_eq other) front → cond (is_eq (slice_cmp nat_cmp word other)) true seen ≡ list_any (bytes_eq other) (front ++ word ∷ [])
+pub seen_more : (front : List (List ℕ)) (word other : List ℕ) (seen : Bool) → seen ≡ list_any (bytes_eq other) front
+    → cond (is_eq (slice_cmp nat_cmp word other)) true seen ≡ list_any (bytes_eq other) (front ++ word ∷ [])
 seen_more front word other seen h =
     let e : is_eq (slice_cmp nat_cmp word other) ≡ bytes_eq other word = is_eq-slice_cmp word other ∙ nat_list_eq_equiv.symm word other in
     rw (e, h, list_any-append (bytes_eq other) front (word ∷ [])) (either (list_any (bytes_eq other) front) (bytes_eq other word))
@@ -103,19 +60,22 @@ none_among w (x ∷ names) h =
 other_than : (x w : List ℕ) → bytes_eq w x ≡ false → bytes_eq x w ≡ false
 other_than x w h = nat_list_eq_equiv.symm x w ∙ h
 
-all_with : (x w : List ℕ) (names others : List (List ℕ)) → bytes_eq x w ≡ false → AllByRecursion (λ y. bytes_eq x y ≡ false) (names ++ others) → AllByRecursion (λ y. bytes_eq x y ≡ false) ((names ++ w ∷ []) ++ others)
+all_with : (x w : List ℕ) (names others : List (List ℕ)) → bytes_eq x w ≡ false → AllByRecursion (λ y. bytes_eq x y ≡ false) (names ++ others)
+    → AllByRecursion (λ y. bytes_eq x y ≡ false) ((names ++ w ∷ []) ++ others)
 all_with x w [] others e h = (e, h)
 all_with x w (y ∷ names) others e h = (h.0, all_with x w names others e h.1)
 
 -- a further name that is none of those before it
-still_distinct : (w : List ℕ) (names others : List (List ℕ)) → list_any (bytes_eq w) names ≡ false → list_any (bytes_eq w) others ≡ false → IsDistinct bytes_eq (names ++ others) → IsDistinct bytes_eq ((names ++ w ∷ []) ++ others)
+still_distinct : (w : List ℕ) (names others : List (List ℕ)) → list_any (bytes_eq w) names ≡ false → list_any (bytes_eq w) others ≡ false
+    → IsDistinct bytes_eq (names ++ others) → IsDistinct bytes_eq ((names ++ w ∷ []) ++ others)
 unfolding IsDistinct
 still_distinct w [] others mine theirs h = (none_among w others theirs, h)
 still_distinct w (x ∷ names) others mine theirs h =
     let parts = or_parts (bytes_eq w x) (list_any (bytes_eq w) names) mine in
     (all_with x w names others (other_than x w parts.0) h.0, still_distinct w names others parts.1 theirs h.1)
 
-said_distinct : (others front : List (List ℕ)) (lexemes : List Lexeme) (names : List (List ℕ)) → names_said others front lexemes ≡ Ok names → IsDistinct bytes_eq (front ++ others) → IsDistinct bytes_eq (names ++ others)
+said_distinct : (others front : List (List ℕ)) (lexemes : List Lexeme) (names : List (List ℕ)) → names_said others front lexemes ≡ Ok names
+    → IsDistinct bytes_eq (front ++ others) → IsDistinct bytes_eq (names ++ others)
 said_distinct others front [] names e h = let same : front ≡ names = cc in subst (λ (ns : List (List ℕ)). IsDistinct bytes_eq (ns ++ others)) same h
 said_distinct others front (number n ∷ lexemes) names e h = absurd (cc)
 said_distinct others front (plus ∷ lexemes) names e h = absurd (cc)
@@ -124,10 +84,13 @@ said_distinct others front (times ∷ lexemes) names e h = absurd (cc)
 said_distinct others front (power ∷ lexemes) names e h = absurd (cc)
 said_distinct others front (name word ∷ lexemes) names e h = step (said_distinct others (front ++ word ∷ []) lexemes names) (given others front word) refl e
   where
-    step : (names_said others (front ++ word ∷ []) lexemes ≡ Ok names → IsDistinct bytes_eq ((front ++ word ∷ []) ++ others) → IsDistinct bytes_eq (names ++ others))
-        → (b : Bool) → given others front word ≡ b → cond b (Err fault.Name) (names_said others (front ++ word ∷ []) lexemes) ≡ Ok names → IsDistinct bytes_eq (names ++ others)
+    step : (names_said others (front ++ word ∷ []) lexemes ≡ Ok names → IsDistinct bytes_eq ((front ++ word ∷ []) ++ others)
+        → IsDistinct bytes_eq (names ++ others))
+        → (b : Bool) → given others front word ≡ b → cond b (Err fault.Name) (names_said others (front ++ word ∷ []) lexemes) ≡ Ok names
+        → IsDistinct bytes_eq (names ++ others)
     step rest true g e = absurd (cc)
-    step rest false g e = let parts = or_parts (list_any (bytes_eq word) others) (list_any (bytes_eq word) front) g in rest e (still_distinct word front others parts.1 parts.0 h)
+    step rest false g e = let parts = or_parts (list_any (bytes_eq word) others) (list_any (bytes_eq word) front) g in rest e
+        (still_distinct word front others parts.1 parts.0 h)
 
 -- what is known of the names of a line
 pub record AreNames (least : ℕ) (others names : List (List ℕ)) : Type 0 where
@@ -135,17 +98,20 @@ pub record AreNames (least : ℕ) (others names : List (List ℕ)) : Type 0 wher
   pub few : length names ≤ 8
   pub distinct : IsDistinct bytes_eq others → IsDistinct bytes_eq (names ++ others)
 
-pub are_names : (others : List (List ℕ)) (least : ℕ) (lexemes : List Lexeme) (names : List (List ℕ)) → bind (names_said others [] lexemes) (counted least 8) ≡ Ok names → AreNames least others names
+pub are_names : (others : List (List ℕ)) (least : ℕ) (lexemes : List Lexeme) (names : List (List ℕ))
+    → and_then (names_said others [] lexemes) (counted least 8) ≡ Ok names → AreNames least others names
 are_names others least lexemes names h = read (names_said others [] lexemes) refl h
   where
-    within : (said : List (List ℕ)) (b : Bool) → names_said others [] lexemes ≡ Ok said → leb least (length said) && leb (length said) 8 ≡ b → cond b (Ok said) (Err fault.Count) ≡ Ok names → AreNames least others names
+    within : (said : List (List ℕ)) (b : Bool) → names_said others [] lexemes ≡ Ok said → leb least (length said) && leb (length said) 8 ≡ b
+        → cond b (Ok said) (Err fault.Count) ≡ Ok names → AreNames least others names
     within said true e t k =
         let same : said ≡ names = cc in
         let parts = and_parts (leb least (length said)) (leb (length said) 8) t in
-        subst (AreNames least others) same (record { enough = leb-true _ _ parts.0; few = leb-true _ _ parts.1; distinct = said_distinct others [] lexemes said e })
+        subst (AreNames least others) same (record
+        { enough = leb-true _ _ parts.0; few = leb-true _ _ parts.1; distinct = said_distinct others [] lexemes said e })
     within said false e t k = absurd (cc)
 
-    read : (r : Result (List (List ℕ)) TextKind) → names_said others [] lexemes ≡ r → bind r (counted least 8) ≡ Ok names → AreNames least others names
+    read : (r : Result (List (List ℕ)) TextKind) → names_said others [] lexemes ≡ r → and_then r (counted least 8) ≡ Ok names → AreNames least others names
     read (Ok said) e k = within said (leb least (length said) && leb (length said) 8) e refl k
     read (Err kind) e k = absurd (cc)
 

@@ -1,5 +1,5 @@
 -- What some texts spell.
-use Rattle.std.proofs.Common.{◌≡◌, ℕ, [], ◌∷◌, Ok, Err, None, Result, refl}
+use Rattle.std.proofs.Common.{◌≡◌, ℕ, [], ◌∷◌, ◌++◌, Ok, Err, None, Result, refl}
 use Rattle.std.specs.Prelude.{codes}
 use Rattle.cgs_order.specs.declared.kind.Kind.TheVariants.{GrevLex}
 use Rattle.cgs_order.specs.TermOrder.{key, compared}
@@ -62,7 +62,9 @@ unfolding read_from
 empty = refl
 
 -- comments, an empty line, and CR before each LF
-pub accepted : problem_spelled (codes "# example\r\nfield 7\r\nparameters a\r\nvariables x y\r\n\r\norder grevlex\r\npoly 10*x*y - x^2 + 3*y*x + 7*a\r\nnonzero 2*a-2\r\nzero 0\r\nend\r\n")
+pub accepted : problem_spelled
+    (codes "# example\r\nfield 7\r\nparameters a\r\nvariables x y\r\n\r\norder grevlex\r\n"
+    ++ codes "poly 10*x*y - x^2 + 3*y*x + 7*a\r\nnonzero 2*a-2\r\nzero 0\r\nend\r\n")
     ≡ Ok (record {
       ring = record { modulus = 7; variables = 2; parameters = 1; kind = GrevLex };
       names = codes "x" ∷ codes "y" ∷ codes "a" ∷ [];

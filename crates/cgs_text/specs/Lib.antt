@@ -1,6 +1,5 @@
-pub mod Answers
-pub mod Tokens
+pub mod Refusals
+pub mod Factors
 pub mod Scopes
-pub mod Terms
-pub mod Drafts
+pub mod Stages
 pub mod Words

@@ -1,23 +1,20 @@
 //! A product as it is read, factor by factor.
 
 ghost use Rattle.std.specs.Prelude.{◌≡◌, ◌<◌, ◌≤◌, length, replicate, OnOk, IfOk};
-ghost use Rattle.std.specs.List.{AllByRecursion};
-ghost use Rattle.std.specs.Str.Parse.{digits_value};
-ghost use Rattle.cgs_poly.specs.Polynomial.{IsRing, term, places};
-ghost use Rattle.cgs_problem.specs.Lexemes.{lexemes_of, text_of};
+ghost use Rattle.cgs_list.specs.Results.{Answers};
+ghost use Rattle.cgs_poly.specs.Polynomial.{term, places};
 ghost use Rattle.cgs_problem.specs.Sums as sums;
-ghost use Rattle.cgs_text.specs.Answers.{Gives, Becomes};
-ghost use Rattle.cgs_text.specs.Scopes.{reader_in, IsReader, IsProduct, GivesFactor};
-ghost use Rattle.cgs_text.specs.Tokens.{IsToken};
+ghost use Rattle.cgs_text.specs.Factors.{factor, powered};
+ghost use Rattle.cgs_text.specs.Refusals.{kind_told};
+ghost use Rattle.cgs_text.specs.Scopes.{reader_in, IsReader, IsProduct};
 
-use crate::lexeme::{digits_value, text};
 use crate::refusal::LineRefused;
 use crate::scope::Scope;
 use cgs_exps::{MAX_DEGREE, degree};
 use cgs_field::Elem;
 use cgs_poly::Ring;
 use cgs_problem::TextKind;
-use cgs_tokens::{Token, TokenKind};
+use cgs_tokens::{Lexeme, Line};
 use std::alloc::{AllocError, Global};
 use std::marker::Model;
 
@@ -84,7 +81,7 @@ impl Product {
         requires product { IsProduct (reader_in scope.now) self.old }
         requires place { place < places scope.now.ring.now }
         requires allowed { scope.now.barred ≤ place }
-        ensures said { Becomes result self.new (sums.times_power (reader_in scope.now) place exponent self.old) }
+        ensures said { Answers (λ _. self.new) kind_told result (sums.times_power (reader_in scope.now) place exponent self.old) }
         ensures product { OnOk result (IsProduct (reader_in scope.now) self.new) }
     {
         if degree(&self.exponents) + exponent as u32 > scope.most {
@@ -95,84 +92,63 @@ impl Product {
     }
 }
 
-/// Multiplies a product by the factor that comes first. The answer is the tokens after it.
-#[tactic(auto, using(crate::proofs::FactorLemmas::product_of_name), unfolding(cgs_problem::specs::Sums::product))]
+/// Multiplies a product by the factor that comes first. The answer is what is left of the line.
 pub(crate) fn times_factor<'a>(
     scope: &Scope,
-    line: &[u8],
-    tokens: &'a [Token],
+    line: &Line<'a>,
     product: &mut Product,
-) -> Result<&'a [Token], LineRefused>
+) -> Result<Line<'a>, LineRefused>
     requires reader { IsReader (reader_in scope.now) }
-    requires tokens { AllByRecursion (IsToken line.now) tokens.now }
     requires product { IsProduct (reader_in scope.now) product.old }
-    ensures said { GivesFactor (reader_in scope.now) line.now result product.new (sums.product (reader_in scope.now) product.old (lexemes_of line.now tokens.now)) }
+    ensures said { Answers (λ rest. (product.new, rest)) kind_told result (factor (reader_in scope.now) product.old line.now) }
     ensures product { OnOk result (IsProduct (reader_in scope.now) product.new) }
-    ensures tokens { IfOk result (λ rest. AllByRecursion (IsToken line.now) rest.now) }
-    ensures fewer { IfOk result (λ rest. length rest.now < length tokens.now) }
+    ensures fewer { IfOk result (λ rest. length rest < length line.now) }
 {
-    let Some((first, rest)) = tokens.split_first() else {
-        return Err(LineRefused::Kind(TextKind::Syntax));
-    };
-    match first.kind {
-        TokenKind::Number => {
-            product.times_number(scope, digits_value(text(line, *first)));
+    match line.split_first() {
+        Some((Lexeme::Number(number), rest)) => {
+            product.times_number(scope, number);
             Ok(rest)
         }
-        TokenKind::Name => {
-            let place = scope.place_of(text(line, *first))?;
-            times_power(scope, line, rest, place, product)
+        Some((Lexeme::Name(name), rest)) => {
+            let place = scope.place_of(name)?;
+            times_power(scope, rest, place, product)
         }
         _ => Err(LineRefused::Kind(TextKind::Syntax)),
     }
 }
 
-/// Multiplies a product by the power of the name at a place. The answer is the tokens after it.
-#[tactic(auto, unfolding(cgs_problem::specs::Sums::powered))]
+/// Multiplies a product by the power of the name at a place. The answer is what is left of the line.
 fn times_power<'a>(
     scope: &Scope,
-    line: &[u8],
-    tokens: &'a [Token],
+    line: Line<'a>,
     place: usize,
     product: &mut Product,
-) -> Result<&'a [Token], LineRefused>
+) -> Result<Line<'a>, LineRefused>
     requires reader { IsReader (reader_in scope.now) }
-    requires tokens { AllByRecursion (IsToken line.now) tokens.now }
     requires product { IsProduct (reader_in scope.now) product.old }
     requires place { place < places scope.now.ring.now }
     requires allowed { scope.now.barred ≤ place }
-    ensures said { GivesFactor (reader_in scope.now) line.now result product.new (sums.powered (reader_in scope.now) product.old place (lexemes_of line.now tokens.now)) }
+    ensures said { Answers (λ rest. (product.new, rest)) kind_told result (powered (reader_in scope.now) product.old place line.entry) }
     ensures product { OnOk result (IsProduct (reader_in scope.now) product.new) }
-    ensures tokens { IfOk result (λ rest. AllByRecursion (IsToken line.now) rest.now) }
-    ensures fewer { IfOk result (λ rest. length rest.now ≤ length tokens.now) }
+    ensures fewer { IfOk result (λ rest. length rest ≤ length line.entry) }
 {
-    let Some((first, after)) = tokens.split_first() else {
+    let Some((Lexeme::Power, after)) = line.split_first() else {
         product.times_power(scope, place, 1)?;
-        return Ok(tokens);
+        return Ok(line);
     };
-    let TokenKind::Power = first.kind else {
-        product.times_power(scope, place, 1)?;
-        return Ok(tokens);
-    };
-    let Some((second, rest)) = after.split_first() else {
+    let Some((Lexeme::Number(number), rest)) = after.split_first() else {
         return Err(LineRefused::Kind(TextKind::Syntax));
     };
-    let TokenKind::Number = second.kind else {
-        return Err(LineRefused::Kind(TextKind::Syntax));
-    };
-    let exponent = exponent_of(line, *second)?;
+    let exponent = exponent_of(number)?;
     product.times_power(scope, place, exponent)?;
     Ok(rest)
 }
 
-fn exponent_of(line: &[u8], token: Token) -> Result<u16, LineRefused>
-    requires token { IsToken line.now token }
-    requires number { token.kind ≡ TokenKind.Number }
-    ensures { Gives result (sums.exponent_of (digits_value 10 (text_of line.now token))) }
+fn exponent_of(number: u64) -> Result<u16, LineRefused>
+    ensures { Answers (λ exponent. exponent) kind_told result (sums.exponent_of number) }
 {
-    let value = digits_value(text(line, token));
-    if value > MAX_DEGREE as u64 {
+    if number > MAX_DEGREE as u64 {
         return Err(LineRefused::Kind(TextKind::Exponent));
     }
-    Ok(value as u16)
+    Ok(number as u16)
 }

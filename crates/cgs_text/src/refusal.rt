@@ -1,9 +1,10 @@
 //! Why nothing was read.
 
 ghost use Rattle.std.specs.Prelude.{◌≡◌};
-ghost use Rattle.cgs_text.specs.Answers.{refused_at};
+ghost use Rattle.cgs_text.specs.Refusals.{refused_at};
 
 use cgs_problem::{TextFault, TextKind};
+use cgs_tokens::TokenFault;
 use std::alloc::{AllocError, AllocFailed};
 
 /// Why there is no problem.
@@ -32,6 +33,21 @@ impl LineRefused {
         match self {
             LineRefused::Kind(kind) => TextRefused::Fault(TextFault { line, kind }),
             LineRefused::OutOfMemory => TextRefused::OutOfMemory,
+        }
+    }
+}
+
+impl From<TokenFault> for LineRefused {
+    ghost use Rattle.cgs_text.specs.Refusals.{refused_by};
+
+    ghost from_gives = { λ fault e. e ≡ refused_by fault };
+
+    fn from(fault: TokenFault) -> Self {
+        match fault {
+            TokenFault::Byte(_) => LineRefused::Kind(TextKind::Byte),
+            TokenFault::Literal(_) => LineRefused::Kind(TextKind::Literal),
+            TokenFault::LongName(_) => LineRefused::Kind(TextKind::Name),
+            TokenFault::OutOfMemory => LineRefused::OutOfMemory,
         }
     }
 }

@@ -1,8 +1,9 @@
 //! What a polynomial is read with.
 
 ghost use Rattle.std.specs.Prelude.{◌≡◌, ◌<◌, ◌≤◌, length, IfOk, position, bytes_eq};
+ghost use Rattle.cgs_list.specs.Results.{Answers};
 ghost use Rattle.cgs_problem.specs.Sums.{place_of};
-ghost use Rattle.cgs_text.specs.Answers.{Gives};
+ghost use Rattle.cgs_text.specs.Refusals.{kind_told};
 ghost use Rattle.cgs_text.specs.Scopes.{reader_in};
 
 use crate::refusal::LineRefused;
@@ -21,7 +22,7 @@ pub(crate) struct Scope<'a> {
 impl<'a> Scope<'a> {
     /// The place of a name that may stand there.
     pub(crate) fn place_of(&self, name: &[u8]) -> Result<usize, LineRefused>
-        ensures place { Gives result (place_of (reader_in self.now) name.now) }
+        ensures place { Answers (λ place. place) kind_told result (place_of (reader_in self.now) name.now) }
         ensures within { IfOk result (λ place. place < length self.now.names.now) }
         ensures allowed { IfOk result (λ place. self.now.barred ≤ place) }
     {

@@ -1,1 +1,3 @@
 pub mod ScanLemmas
+pub mod NumberLemmas
+pub mod TokenLemmas

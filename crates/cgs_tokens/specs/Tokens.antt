@@ -1,7 +1,9 @@
 -- A line as tokens, from the left, or its first offence.
-use Rattle.std.specs.Prelude.{◌≡◌, ℕ, zero, suc, ◌+◌, ◌-◌, Bool, ◌||◌, List, [], ◌∷◌, length, if◌then◌else◌, ◌==◌, nat_lt, Result, Ok, Err}
+use Rattle.std.specs.Prelude.{ℕ, zero, suc, ◌+◌, ◌-◌, Bool, ◌||◌, List, [], ◌∷◌, length, if◌then◌else◌, ◌==◌, nat_lt, Option, Some, None, Result, Ok, Err}
 use Rattle.std.specs.List.{prefix_len}
 use Rattle.std.specs.Char.{is_ascii_digit, is_ascii_alphabetic, is_ascii_alphanumeric}
+use Rattle.cgs_list.specs.Results.{mapped}
+pub use Rattle.cgs_list.specs.Results.{and_then}
 use Rattle.cgs_tokens.specs.declared.token.Token.{Token}
 use Rattle.cgs_tokens.specs.declared.token.TokenKind.{TokenKind}
 use Rattle.cgs_tokens.specs.declared.token.TokenKind.TheVariants as kind
@@ -46,12 +48,7 @@ token_at place (byte ∷ bytes) =
     else sign_at place byte)
 
 abbrev pub with_first : Token → Result (List Token) TokenFault → Result (List Token) TokenFault
-with_first token (Ok tokens) = Ok (token ∷ tokens)
-with_first token (Err fault) = Err fault
-
-abbrev pub and_then : {A B : Type 0} → Result A TokenFault → (A → Result B TokenFault) → Result B TokenFault
-and_then (Ok x) f = f x
-and_then (Err e) f = Err e
+with_first token tokens = mapped (λ tokens. token ∷ tokens) tokens
 
 -- The tokens of the bytes from a place on, where the first `skip` bytes still belong to the token before.
 unfoldable pub tokens_from : ℕ → ℕ → List ℕ → Result (List Token) TokenFault
@@ -64,8 +61,7 @@ tokens_from zero place (byte ∷ bytes) =
 abbrev pub tokens_of : List ℕ → Result (List Token) TokenFault
 tokens_of line = tokens_from 0 0 line
 
--- the answer of a call: these tokens or this offence, unless memory was short
-abbrev pub GivesTokens : Result (List Token) TokenFault → Result (List Token) TokenFault → Type 0
-GivesTokens (Ok tokens) read = read ≡ Ok tokens
-GivesTokens (Err OutOfMemory) read = Unit {0}
-GivesTokens (Err fault) read = read ≡ Err fault
+-- the offences: want of memory is none
+abbrev pub offence_of : TokenFault → Option TokenFault
+offence_of OutOfMemory = None
+offence_of offence = Some offence

@@ -1,9 +1,10 @@
 //! A line is cut into tokens.
 
-ghost use Rattle.std.specs.Prelude.{◌≡◌, ◌<◌, ◌≤◌, ◌+◌, ◌^◌, length, drop, IfOk, ℕ};
+ghost use Rattle.std.specs.Prelude.{◌≡◌, ◌<◌, ◌≤◌, ◌+◌, ◌^◌, length, drop, IfOk};
 ghost use Rattle.std.specs.List.{prefix_len};
 ghost use Rattle.std.specs.Char.{is_ascii_digit};
-ghost use Rattle.cgs_tokens.specs.Tokens.{tokens_of, GivesTokens, token_at, spanned, is_blank, is_word};
+ghost use Rattle.cgs_list.specs.Results.{Answers};
+ghost use Rattle.cgs_tokens.specs.Tokens.{tokens_of, offence_of, token_at, spanned, is_blank, is_word};
 
 use crate::token::{Token, TokenFault, TokenKind};
 use cgs_list::ItemList;
@@ -20,7 +21,7 @@ pub type TokenList = ItemList<Token>;
 /// first offence, or where memory is short.
 pub fn tokens(alloc: Global, line: &[u8]) -> Result<TokenList, TokenFault>
     requires { length line.now ≤ 67108864 }
-    ensures { GivesTokens result (tokens_of line.now) }
+    ensures { Answers (λ list. list) offence_of result (tokens_of line.now) }
 {
     let mut list = ItemList::new(alloc);
     let mut at: u32 = 0;

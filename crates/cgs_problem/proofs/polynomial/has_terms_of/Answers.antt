@@ -7,4 +7,5 @@ use Rattle.cgs_problem.proofs.polynomial.has_terms_of.Goals as goal
 pub loop-i-preserved : goal.loop-i-preserved
 loop-i-preserved c =
     let holds : IsTrue c.is_term.result = search rules in
-    passes (IsTermOf c.args.ring.now) (AllByRecursion (IsTermOf c.args.ring.now) c.args.f.now) c.args.f.now c.loop-i.i _ c.term-term.ensures (c.is_term.ensures.0 holds) c.loop-i.invariant
+    passes (IsTermOf c.args.ring.now) (AllByRecursion (IsTermOf c.args.ring.now) c.args.f.now) c.args.f.now c.loop-i.i _ c.term-term.ensures
+    (c.is_term.ensures.0 holds) c.loop-i.invariant

@@ -7,13 +7,15 @@ pub returns-then-contains : goal.returns-then-contains
 returns-then-contains c =
     let found : list_any (bytes_eq c.in-Some.name.now) c.in-Some.after.now ≡ true = search rules in
     let cells : c.loop-name.rest.now ≡ c.in-Some.name.now ∷ c.in-Some.after.now = search rules in
-    old_name (IsDistinct bytes_eq c.args.names.now) c.in-Some.name.now c.in-Some.after.now found (subst (λ ys. IsDistinct bytes_eq ys ↔ IsDistinct bytes_eq c.args.names.now) cells c.loop-name.invariant)
+    old_name (IsDistinct bytes_eq c.args.names.now) c.in-Some.name.now c.in-Some.after.now found
+    (subst (λ ys. IsDistinct bytes_eq ys ↔ IsDistinct bytes_eq c.args.names.now) cells c.loop-name.invariant)
 
 pub loop-name-preserved : goal.loop-name-preserved
 loop-name-preserved c =
     let found : list_any (bytes_eq c.in-Some.name.now) c.in-Some.after.now ≡ false = search rules in
     let cells : c.loop-name.rest.now ≡ c.in-Some.name.now ∷ c.in-Some.after.now = search rules in
-    new_name (IsDistinct bytes_eq c.args.names.now) c.in-Some.name.now c.in-Some.after.now found (subst (λ ys. IsDistinct bytes_eq ys ↔ IsDistinct bytes_eq c.args.names.now) cells c.loop-name.invariant)
+    new_name (IsDistinct bytes_eq c.args.names.now) c.in-Some.name.now c.in-Some.after.now found
+    (subst (λ ys. IsDistinct bytes_eq ys ↔ IsDistinct bytes_eq c.args.names.now) cells c.loop-name.invariant)
 
 pub returns : goal.returns
 returns c =

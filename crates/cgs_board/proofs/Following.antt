@@ -123,9 +123,6 @@ module _ {J E : Type 0} (node : J → List ℕ → Option E × List J) (root : J
               | inr is ↦ absurd (quit_no_give worker c.5.0 c.0 c.2 c.5.1 is)
             ]
 
-    path_at : (i : ℕ) (s t : Slot J) → slice_get slots i ≡ Some s → slice_get slots i ≡ Some t → s.path ≡ t.path
-    path_at i s t at there = ap (λ (x : Slot J). x.path) (same_Some s t (sym at ∙ there))
-
     module _ (i : ℕ) (slot : Slot J) (at : slice_get slots i ≡ Some slot) where
       -- a worker claims the branch of an open slot
       pub follows_claim : (worker : ℕ) (branch : J) → worker < workers → (HasQuit h → ⊥) → branch_at node root slot.path ≡ Some branch → IsOpen slot.path h

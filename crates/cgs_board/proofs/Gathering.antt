@@ -171,10 +171,6 @@ module _ {J E : Type 0} (node : J → List ℕ → Option E × List J) where
   itself_keyed b p x (inl is) = ap (λ z. z.0) (sym is)
   itself_keyed b p x (inr none) = absurd none
 
-  itself_in : (b : J) (p : List ℕ) (x : List ℕ × J) → In x (itself b p) → b ≡ x.1
-  itself_in b p x (inl is) = ap (λ z. z.1) is
-  itself_in b p x (inr none) = absurd none
-
   module _ (height : J → List ℕ → ℕ) (falls : Falls node height) (root : J) (workers : ℕ) (h : List Event) (legal : IsLegal node root workers h) where
     -- the entries that came back, sorted, are those of the tree
     pub sorted_entries : ((path : List ℕ) → IsOffered path h → IsGiven path h) → (es : List (List ℕ × E))

@@ -1,6 +1,6 @@
 //! A tree of numbers: the node of n has n children n - 1, and the node of 0 the entry 0.
 
-ghost use Rattle.std.specs.Prelude.{◌≡◌, ◌↔◌, ℕ, List, Option, IfOk, IsTrue};
+ghost use Rattle.std.specs.Prelude.{ℕ};
 ghost use Rattle.cgs_board.specs.Examples.{countdown, level, countdown_falls};
 
 use crate::{Board, Claimed, Event, Given, Job, Outcome, Piece, entries_of, finish};

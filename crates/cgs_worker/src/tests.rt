@@ -1,18 +1,23 @@
-//! One worker on a tree of numbers: the node of n has n children n - 1, and the node of 0 the entry 0.
+//! Workers on a tree of numbers: the node of n has n children n - 1, and the node of 0 the entry 0.
 
-ghost use Rattle.std.specs.Prelude.{◌≡◌, ◌↔◌, ℕ, List, Option, IfOk, IsTrue};
+ghost use Rattle.std.specs.Prelude.{◌<◌, ℕ};
 ghost use Rattle.cgs_board.specs.Examples.{countdown, level, countdown_falls};
 
-use crate::run_board_alone;
-use cgs_board::{Job, Outcome};
+use crate::{Gate, OpenGate, run_board, run_board_alone};
+use cgs_board::{Event, Job, Outcome};
 use cgs_path::Path;
 use std::alloc::{AllocError, Global};
 use std::marker::Model;
 use std::process::Abort;
+use std::sync::Wait;
+use std::sync::atomic::{AtomicU64, Ordering};
+use std::thread::Threads;
 
+// A number. The node at the path of this code refuses memory.
 #[derive(Drop)]
 struct Countdown {
     n: u32,
+    refused: u64,
 }
 
 impl Model for Countdown {
@@ -30,7 +35,10 @@ impl Job for Countdown {
 
     ghost height = { level };
 
-    fn node(&self, alloc: Global, _path: &Path) -> Result<Outcome<u32, Countdown>, AllocError> {
+    fn node(&self, alloc: Global, path: &Path) -> Result<Outcome<u32, Countdown>, AllocError> {
+        if code(path.as_slice()) == self.refused {
+            return Err(AllocError);
+        }
         if self.n == 0 {
             return Ok(Outcome {
                 entry: Some(0),
@@ -39,7 +47,10 @@ impl Job for Countdown {
         }
         let mut children = Vec::new(alloc);
         for _ in 0..self.n {
-            children.push(Countdown { n: self.n - 1 })?;
+            children.push(Countdown {
+                n: self.n - 1,
+                refused: self.refused,
+            })?;
         }
         Ok(Outcome {
             entry: None,
@@ -48,7 +59,10 @@ impl Job for Countdown {
     }
 
     fn copy(&self, _alloc: Global) -> Result<Countdown, AllocError> {
-        Ok(Countdown { n: self.n })
+        Ok(Countdown {
+            n: self.n,
+            refused: self.refused,
+        })
     }
 
     fn same(&self, other: &Countdown) -> bool {
@@ -58,14 +72,152 @@ impl Job for Countdown {
     ghost falls = { countdown_falls };
 }
 
+// The code of the root's path is 1, and that of the child i of c is 4 * c + i.
+fn code(path: &[usize]) -> u64 {
+    let mut code = 1u64;
+    for number in path.iter() {
+        code = code.saturating_mul(4).saturating_add(*number as u64);
+    }
+    code
+}
+
+// The tree of 3 has 16 branches and 6 entries. No path has the code 0.
+fn whole_tree() -> Countdown {
+    Countdown { n: 3, refused: 0 }
+}
+
 #[test]
 fn one_worker_alone(rt: HostRuntime) {
-    let board = run_board_alone(rt.alloc(), Countdown { n: 2 }).expect(&rt, "memory");
-    assert!(rt; board.finished());
+    let board = run_board_alone(rt.alloc(), whole_tree()).expect(&rt, "memory");
     assert_eq!(rt; board.workers(), 1);
-    assert_eq!(rt; board.gives(), 5);
+    assert_eq!(rt; board.gives(), 16);
     let history = board.history().expect(&rt, "memory");
-    assert_eq!(rt; history.len(), 10);
-    let entries = board.into_entries().expect(&rt, "memory");
-    assert_eq!(rt; entries.len(), 2);
+    assert_eq!(rt; history.len(), 32);
+}
+
+// Fails unless as many workers finish the tree of 3.
+fn finish_tree<R: Threads + Wait + Abort + Sync>(rt: &R, alloc: Global, workers: u32) {
+    assert!(rt; 0 < workers);
+    let board = run_board(rt, alloc, whole_tree(), workers, &OpenGate).expect(rt, "memory");
+    assert_eq!(rt; board.workers(), workers);
+    assert_eq!(rt; board.gives(), 16);
+    let entries = board.into_entries().expect(rt, "memory");
+    assert_eq!(rt; entries.len(), 6);
+}
+
+#[test]
+fn many_workers(rt: HostRuntime) {
+    for _ in 0..50 {
+        for workers in 1..9 {
+            finish_tree(&rt, rt.alloc(), workers);
+        }
+    }
+}
+
+// Holds the first worker that enters with a path of one number until another does, and notes who entered with each path.
+#[derive(Drop)]
+struct Meeting {
+    entered: AtomicU64,
+    missed: AtomicU64,
+    notes: Vec<AtomicU64>,
+}
+
+// What an entry by worker 0 adds to the note of a path. A worker adds its number to that.
+const ENTRY: u64 = 256;
+
+impl Gate for Meeting {
+    fn enter(&self, worker: u32, path: &[usize]) {
+        if let Some(note) = self.notes.get(code(path) as usize) {
+            note.fetch_add(ENTRY + u64::from(worker), Ordering::SeqCst);
+        }
+        if path.len() == 1 && self.entered.fetch_add(1, Ordering::SeqCst) == 0 {
+            self.hold();
+        }
+    }
+}
+
+impl Meeting {
+    fn new(alloc: Global) -> Result<Meeting, AllocError> {
+        let mut notes = Vec::new(alloc);
+        for _ in 0..64 {
+            notes.push(AtomicU64::new(0))?;
+        }
+        Ok(Meeting {
+            entered: AtomicU64::new(0),
+            missed: AtomicU64::new(0),
+            notes,
+        })
+    }
+
+    // Waits until another entered, for so many turns at most.
+    fn hold(&self) {
+        for _ in 0..1_000_000_000u64 {
+            if self.entered.load(Ordering::SeqCst) >= 2 {
+                return;
+            }
+        }
+        self.missed.store(1, Ordering::SeqCst);
+    }
+
+    // Whether the gate was entered just once with this path, by this worker.
+    fn saw(&self, worker: u32, path: &[usize]) -> bool {
+        let Some(note) = self.notes.get(code(path) as usize) else {
+            return false;
+        };
+        note.load(Ordering::SeqCst) == ENTRY + u64::from(worker)
+    }
+}
+
+// Whether both claims of a path of one number stand before both gives.
+fn both_out(events: &[Event]) -> bool {
+    let mut claims = 0u32;
+    for event in events.iter() {
+        match event {
+            Event::Claim { path, .. } if path.depth() == 1 => claims = claims.saturating_add(1),
+            Event::Give { path, .. } if path.depth() == 1 => return claims == 2,
+            _ => {}
+        }
+    }
+    false
+}
+
+#[test]
+fn two_workers_meet(rt: HostRuntime) {
+    for _ in 0..20 {
+        let gate = Meeting::new(rt.alloc()).expect(&rt, "memory");
+        let root = Countdown { n: 2, refused: 0 };
+        let board = run_board(&rt, rt.alloc(), root, 2, &gate).expect(&rt, "memory");
+        assert_eq!(rt; gate.missed.load(Ordering::SeqCst), 0);
+        let history = board.history().expect(&rt, "memory");
+        assert_eq!(rt; history.len(), 10);
+        assert!(rt; both_out(history.as_slice()));
+        for event in history.as_slice().iter() {
+            if let Event::Claim { worker, path } = event {
+                assert!(rt; gate.saw(*worker, path.as_slice()));
+            }
+        }
+    }
+}
+
+// Fails unless there is no memory, with as many workers, where the node at a path refuses it.
+fn refuse<R: Threads + Wait + Abort + Sync>(rt: &R, alloc: Global, path: &[usize], workers: u32) {
+    assert!(rt; 0 < workers);
+    let root = Countdown {
+        n: 3,
+        refused: code(path),
+    };
+    assert!(rt; run_board(rt, alloc, root, workers, &OpenGate).is_err());
+}
+
+#[test]
+fn a_node_refuses_memory(rt: HostRuntime) {
+    let board = run_board_alone(rt.alloc(), whole_tree()).expect(&rt, "memory");
+    let history = board.history().expect(&rt, "memory");
+    for event in history.as_slice().iter() {
+        if let Event::Claim { path, .. } = event {
+            for workers in 1..9 {
+                refuse(&rt, rt.alloc(), path.as_slice(), workers);
+            }
+        }
+    }
 }

@@ -6,34 +6,11 @@ set -eu
 here=$(cd "$(dirname "$0")" && pwd)
 PYTHONPATH=$here python3 -B - "$here" "$@" <<'PY'
 import pathlib, sys
+from systems import systems
 from timed import Run, problem
 here, picked = pathlib.Path(sys.argv[1]), sys.argv[2:]
 program = str(here / "../crates/cgs/out/cgs")
 
-systems = [
-    # linkages
-    ("four-bar-free", "a b c", "x y u v", "lex", ["x^2+y^2-a", "u^2-2*u+1+v^2-b", "x^2-2*x*u+u^2+y^2-2*y*v+v^2-c"]),
-    ("four-bar-grevlex", "a b c", "x y u v", "grevlex", ["x^2+y^2-a", "u^2-2*u+1+v^2-b", "x^2-2*x*u+u^2+y^2-2*y*v+v^2-c"]),
-    ("direction", "r a b", "c s", "lex", ["c^2+s^2-1", "r*c-a", "r*s-b"]),
-    # squared distances: the determinants of Cayley and Menger
-    ("distances-plane", "d e f", "x y", "lex", ["x^2+y^2-d", "x^2-2*x+1+y^2-e", "x^2+y^2-2*y+1-f"]),
-    ("distances-free", "p q d e f", "x y", "lex", ["x^2+y^2-d", "x^2-2*x+1+y^2-e", "x^2-2*p*x+p^2+y^2-2*q*y+q^2-f"]),
-    ("distances-space", "a b c d", "x y z", "grevlex",
-     ["x^2+y^2+z^2-a", "x^2-2*x+1+y^2+z^2-b", "x^2+y^2-2*y+1+z^2-c", "x^2+y^2+z^2-2*z+1-d"]),
-    # after Weispfenning
-    ("weispfenning", "u v", "x y", "lex", ["v*x*y+u*x^2+x", "u*y^2+x^2"]),
-    # linear systems
-    ("linear-two-rows", "a b c d e f", "x y", "lex", ["a*x+b*y-e", "c*x+d*y-f"]),
-    ("linear-diagonal", "a b c d e", "x y z", "lex", ["a*x+y+z-d", "x+b*y+z-e", "x+y+c*z-1"]),
-    ("linear-band", "a b c d", "x y z", "lex", ["a*x+b*y+c*z-1", "b*x+a*y+d*z", "c*x+d*y+a*z"]),
-    # double roots, and common roots
-    ("cubic-free", "a b c d", "x", "lex", ["a*x^3+b*x^2+c*x+d", "3*a*x^2+2*b*x+c"]),
-    ("quartic", "a b c", "x", "lex", ["x^4+a*x^2+b*x+c", "4*x^3+2*a*x+b"]),
-    ("two-quadratics", "a b c d", "x", "lex", ["a*x^2+b*x+c", "x^2+d*x+1"]),
-    # curves
-    ("singular-cubic-curve", "a b", "x y", "lex", ["y^2-x^3-a*x-b", "3*x^2+a", "2*y"]),
-    ("conic-and-line", "a b c d", "x y", "lex", ["a*x^2+b*y^2-1", "c*x+d*y-1"]),
-]
 texts = [(path.stem, path.read_text()) for path in sorted((here / "../examples").glob("*.cgs"))]
 texts += [(name, problem(parameters, variables, order, rows)) for name, parameters, variables, order, rows in systems]
 

@@ -1,4 +1,4 @@
-"""One run of the program: what basis.sh and solve.sh print of it."""
+"""One run of the program: what the other scripts print of it."""
 import os, subprocess, tempfile, threading, time
 
 MOST_SECONDS = 60
@@ -8,12 +8,12 @@ class Run:
     """A run on a text: its seconds, greatest resident kilobytes, exit status and output. Status None: it was stopped.
     A small run shows some 10,000 kilobytes, which the interpreter that starts it takes."""
 
-    def __init__(self, program, words, text, most_seconds=MOST_SECONDS):
+    def __init__(self, program, words, text, most_seconds=MOST_SECONDS, environment={}):
         with tempfile.TemporaryFile() as given, tempfile.TemporaryFile() as printed:
             given.write(text.encode())
             given.seek(0)
             start = time.perf_counter()
-            child = subprocess.Popen([program] + words, stdin=given, stdout=printed)
+            child = subprocess.Popen([program] + words, stdin=given, stdout=printed, env={**os.environ, **environment})
             stopped = threading.Event()
 
             def stop():

@@ -12,7 +12,8 @@ ghost use Rattle.cgs.specs.Ending.{code_without_words, IsFlushed};
 mod tests;
 
 use cgs_io::{StdSink, StdSource, Word, WordList};
-use cgs_program::{Status, run_alone};
+use cgs_program::{Status, run};
+use cgs_worker::OpenGate;
 use std::alloc::{AllocError, Global};
 use std::io::Write;
 use std::process::ExitCode;
@@ -27,7 +28,7 @@ fn main(rt: HostRuntime) -> ExitCode {
     };
     let mut source = StdSource::new(rt.stdin());
     let mut sink = StdSink::new(rt.stdout());
-    let status = run_alone(alloc, &words, &mut source, &mut sink);
+    let status = run(&rt, alloc, &words, &mut source, &mut sink, &OpenGate);
     ExitCode::from(flushed(status, sink.into_inner()).code())
 }
 

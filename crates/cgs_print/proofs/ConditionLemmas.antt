@@ -2,9 +2,9 @@
 use Rattle.std.proofs.Common.{List, [], ◌∷◌}
 use Rattle.std.specs.List.{AllByRecursion}
 use Rattle.cgs_poly.specs.declared.ring.Ring.{Ring}
-use Rattle.cgs_poly.specs.Polynomial.{Term, IsPoly}
+use Rattle.cgs_poly.specs.Polynomial.{Term, ArePolys}
 use Rattle.cgs_poly.specs.Parameters.{IsCondition}
 
-pub conditions_polys : (ring : Ring) (list : List (List Term)) → AllByRecursion (IsCondition ring) list → AllByRecursion (IsPoly ring) list
+pub conditions_polys : (ring : Ring) (list : List (List Term)) → AllByRecursion (IsCondition ring) list → ArePolys ring list
 conditions_polys ring [] h = tt
 conditions_polys ring (f ∷ list) h = (h.0.poly, conditions_polys ring list h.1)

@@ -1,14 +1,15 @@
 -- Printed factors are read again: a power of a name multiplies the product by it.
-use Rattle.std.proofs.Common.{◌≡◌, ℕ, ◌+◌, ◌≤◌, Bool, true, false, cond, eqb, List, [], ◌∷◌, ◌++◌, get_or, set, Result, Ok, Err, refl, sym, ap, ◌∙◌, subst, arith, ltb, codes, decimal, flat_map, if◌then◌else◌, ◌==◌, sum, append_assoc}
+use Rattle.std.proofs.Common.{◌≡◌, ℕ, ◌+◌, ◌≤◌, Bool, true, false, cond, eqb, List, [], ◌∷◌, ◌++◌, get_or, set, Ok, refl, sym, ap, ◌∙◌, subst}
+use Rattle.std.proofs.Common.{arith, ltb, codes, decimal, flat_map, if◌then◌else◌, ◌==◌, sum, append_assoc}
 use Rattle.std.specs.List.{AllByRecursion}
 use Rattle.std.proofs.lemmas.Bool.{le-ltb, eqb-true}
 use Rattle.std.proofs.lemmas.List.Sums.{sum_by-cons}
 use Rattle.cgs_exps.specs.Monomial.{degree}
-use Rattle.cgs_poly.specs.Polynomial.{Term, term}
+use Rattle.cgs_poly.specs.Polynomial.{Term, term, greatest_degree}
+use Rattle.cgs_list.specs.Results.{and_then}
 use Rattle.cgs_tokens.specs.Tokens.{is_word}
-use Rattle.cgs_problem.specs.declared.fault.TextKind.{TextKind}
 use Rattle.cgs_problem.specs.Lexemes.{Lexeme, name, number, plus, minus, times, power}
-use Rattle.cgs_problem.specs.Sums.{Reader, product, follow, powered, place_of, times_power, bind}
+use Rattle.cgs_problem.specs.Sums.{Reader, product, follow, powered, place_of, times_power}
 use Rattle.cgs_print.specs.Printing.{power_text, powers_text}
 use Rattle.cgs_print.proofs.LexemeLemmas.{Says, Stops, IsName, says_nothing, says_append, times_says, power_says, decimal_says, name_says}
 
@@ -35,11 +36,14 @@ times_stops [] = tt
 times_stops (text ∷ texts) = refl
 
 -- texts joined by asterisks
-pub times_joined : (texts : List (List ℕ)) (pieces : List (List Lexeme)) → EachSays texts pieces → Says (flat_map (λ text. codes "*" ++ text) texts) (after times pieces)
+pub times_joined : (texts : List (List ℕ)) (pieces : List (List Lexeme)) → EachSays texts pieces
+    → Says (flat_map (λ text. codes "*" ++ text) texts) (after times pieces)
 times_joined [] [] h = says_nothing
 times_joined [] (l ∷ ls) h = absurd h
 times_joined (x ∷ a) [] h = absurd h
-times_joined (text ∷ texts) (piece ∷ pieces) h = times_says _ _ (says_append text (flat_map (λ text. codes "*" ++ text) texts) piece (after times pieces) h.0 (times_stops texts) (times_joined texts pieces h.1))
+times_joined (text ∷ texts) (piece ∷ pieces) h =
+    times_says _ _ (says_append text (flat_map (λ text. codes "*" ++ text) texts) piece (after times pieces) h.0 (times_stops texts)
+    (times_joined texts pieces h.1))
 
 -- what the powers of a monomial say
 
@@ -49,13 +53,15 @@ power_said word exponent = if exponent == 1 then name word ∷ [] else name word
 abbrev pub powers_said : List (List ℕ) → List ℕ → List (List Lexeme)
 powers_said [] exponents = []
 powers_said (word ∷ names) [] = []
-powers_said (word ∷ names) (exponent ∷ exponents) = if exponent == 0 then powers_said names exponents else power_said word exponent ∷ powers_said names exponents
+powers_said (word ∷ names) (exponent ∷ exponents) =
+    if exponent == 0 then powers_said names exponents else power_said word exponent ∷ powers_said names exponents
 
 raised_says : (word text : List ℕ) (ls : List Lexeme) → IsName word → Says text ls → Says (word ++ codes "^" ++ text) (name word ∷ power ∷ ls)
 raised_says word text ls h s =
-    subst (λ t. Says t (name word ∷ power ∷ ls)) (sym (append_assoc word (codes "^") text)) (says_append word (94 ∷ text) (name word ∷ []) (power ∷ ls) (name_says word h) refl (power_says text ls s))
+    subst (λ t. Says t (name word ∷ power ∷ ls)) (sym (append_assoc word (codes "^") text))
+    (says_append word (94 ∷ text) (name word ∷ []) (power ∷ ls) (name_says word h) refl (power_says text ls s))
 
-pub power_text_says : (word : List ℕ) (exponent : ℕ) → IsName word → exponent ≤ 32767 → Says (power_text word exponent) (power_said word exponent)
+pub power_text_says : (word : List ℕ) (exponent : ℕ) → IsName word → exponent ≤ greatest_degree → Says (power_text word exponent) (power_said word exponent)
 power_text_says word exponent h le = step (eqb exponent 1)
   where
     step : (b : Bool) → Says (cond b word (word ++ codes "^" ++ decimal exponent)) (cond b (name word ∷ []) (name word ∷ power ∷ number exponent ∷ []))
@@ -65,26 +71,24 @@ power_text_says word exponent h le = step (eqb exponent 1)
 pub sum_first : (x : ℕ) (xs : List ℕ) → sum (x ∷ xs) ≡ x + sum xs
 sum_first x xs = sum_by-cons (λ n. n) x xs
 
-pub powers_say : (names : List (List ℕ)) (exponents : List ℕ) → AllByRecursion IsName names → sum exponents ≤ 32767 → EachSays (powers_text names exponents) (powers_said names exponents)
+pub powers_say : (names : List (List ℕ)) (exponents : List ℕ) → AllByRecursion IsName names → sum exponents ≤ greatest_degree
+    → EachSays (powers_text names exponents) (powers_said names exponents)
 powers_say [] exponents h le = tt
 powers_say (word ∷ names) [] h le = tt
 powers_say (word ∷ names) (exponent ∷ exponents) h le =
     let total : sum (exponent ∷ exponents) ≡ exponent + sum exponents = sum_first exponent exponents in
     step (eqb exponent 0) (omega arith) (powers_say names exponents h.1 (omega arith))
   where
-    step : (b : Bool) → exponent ≤ 32767 → EachSays (powers_text names exponents) (powers_said names exponents)
-        → EachSays (cond b (powers_text names exponents) (power_text word exponent ∷ powers_text names exponents)) (cond b (powers_said names exponents) (power_said word exponent ∷ powers_said names exponents))
+    step : (b : Bool) → exponent ≤ greatest_degree → EachSays (powers_text names exponents) (powers_said names exponents)
+        → EachSays (cond b (powers_text names exponents) (power_text word exponent ∷ powers_text names exponents))
+        (cond b (powers_said names exponents) (power_said word exponent ∷ powers_said names exponents))
     step true small ih = ih
     step false small ih = (power_text_says word exponent h.0 small, ih)
 
 -- how a power is read
 
-at_place : (a b : ℕ → Result (List Term) TextKind) (p : Result ℕ TextKind) → ((place : ℕ) → a place ≡ b place) → bind p a ≡ bind p b
-at_place a b (Ok place) h = h place
-at_place a b (Err e) h = refl
-
 pub product_of_name : (reader : Reader) (t : Term) (word : List ℕ) (lexemes : List Lexeme)
-    → product reader t (name word ∷ lexemes) ≡ bind (place_of reader word) (λ place. powered reader t place lexemes)
+    → product reader t (name word ∷ lexemes) ≡ and_then (place_of reader word) (λ place. powered reader t place lexemes)
 unfolding product powered
 product_of_name reader t word [] = refl
 product_of_name reader t word (power ∷ []) = refl
@@ -116,7 +120,8 @@ raised t place e = term t.coefficient (set t.exponents place (get_or t.exponents
 times_power_is : (reader : Reader) (t : Term) (place e : ℕ) → degree t.exponents + e ≤ reader.most → times_power reader place e t ≡ Ok (raised t place e)
 times_power_is reader t place e le = let low : ltb reader.most (degree t.exponents + e) ≡ false = le-ltb _ _ le in rw low refl
 
-plain_name : (reader : Reader) (t : Term) (place : ℕ) (rest : List Lexeme) → NoPower rest → powered reader t place rest ≡ bind (times_power reader place 1 t) (λ next. follow reader next rest)
+plain_name : (reader : Reader) (t : Term) (place : ℕ) (rest : List Lexeme) → NoPower rest
+    → powered reader t place rest ≡ and_then (times_power reader place 1 t) (λ next. follow reader next rest)
 unfolding powered
 plain_name reader t place [] h = refl
 plain_name reader t place (power ∷ rest) h = absurd h
@@ -126,22 +131,27 @@ plain_name reader t place (plus ∷ rest) h = refl
 plain_name reader t place (minus ∷ rest) h = refl
 plain_name reader t place (times ∷ rest) h = refl
 
-powered_reads : (reader : Reader) (t : Term) (place e : ℕ) (rest : List Lexeme) → e ≤ 32767 → degree t.exponents + e ≤ reader.most
+powered_reads : (reader : Reader) (t : Term) (place e : ℕ) (rest : List Lexeme) → e ≤ greatest_degree → degree t.exponents + e ≤ reader.most
     → powered reader t place (power ∷ number e ∷ rest) ≡ follow reader (raised t place e) rest
 unfolding powered
 powered_reads reader t place e rest le fits =
-    let small : ltb 32767 e ≡ false = le-ltb _ _ le in
+    let small : ltb greatest_degree e ≡ false = le-ltb _ _ le in
     rw (small, times_power_is reader t place e fits) refl
 
 -- A printed power multiplies the product by it.
-pub power_reads : (reader : Reader) (t : Term) (word : List ℕ) (place e : ℕ) (rest : List Lexeme) → NoPower rest → place_of reader word ≡ Ok place → e ≤ 32767 → degree t.exponents + e ≤ reader.most
+pub power_reads : (reader : Reader) (t : Term) (word : List ℕ) (place e : ℕ) (rest : List Lexeme) → NoPower rest → place_of reader word ≡ Ok place
+    → e ≤ greatest_degree
+    → degree t.exponents + e ≤ reader.most
     → product reader t (power_said word e ++ rest) ≡ follow reader (raised t place e) rest
 power_reads reader t word place e rest h known le fits = step (eqb e 1) refl
   where
-    step : (b : Bool) → eqb e 1 ≡ b → product reader t (cond b (name word ∷ []) (name word ∷ power ∷ number e ∷ []) ++ rest) ≡ follow reader (raised t place e) rest
+    step : (b : Bool) → eqb e 1 ≡ b → product reader t (cond b (name word ∷ []) (name word ∷ power ∷ number e ∷ []) ++ rest)
+        ≡ follow reader (raised t place e) rest
     step true q =
         let one : e ≡ 1 = eqb-true e 1 q in
-        product_of_name reader t word rest ∙ ap (λ p. bind p (λ place. powered reader t place rest)) known ∙ plain_name reader t place rest h
-        ∙ ap (λ r. bind r (λ next. follow reader next rest)) (times_power_is reader t place 1 (omega arith)) ∙ ap (λ k. follow reader (raised t place k) rest) (sym one)
+        product_of_name reader t word rest ∙ ap (λ p. and_then p (λ place. powered reader t place rest)) known ∙ plain_name reader t place rest h
+        ∙ ap (λ r. and_then r (λ next. follow reader next rest)) (times_power_is reader t place 1 (omega arith))
+        ∙ ap (λ k. follow reader (raised t place k) rest) (sym one)
     step false q =
-        product_of_name reader t word (power ∷ number e ∷ rest) ∙ ap (λ p. bind p (λ place. powered reader t place (power ∷ number e ∷ rest))) known ∙ powered_reads reader t place e rest le fits
+        product_of_name reader t word (power ∷ number e ∷ rest) ∙ ap (λ p. and_then p (λ place. powered reader t place (power ∷ number e ∷ rest))) known
+        ∙ powered_reads reader t place e rest le fits

@@ -15,7 +15,8 @@ powers_taken (suc n) (name ∷ names) [] le = refl
 powers_taken (suc n) (name ∷ names) (e ∷ exponents) le =
     ap (λ (powers : List (List ℕ)). cond (eqb e 0) powers (power_text name e ∷ powers)) (powers_taken n names exponents (omega arith))
 
-monomial_taken : (ring : Ring) (names : List (List ℕ)) (exponents : List ℕ) → length exponents ≡ places ring → monomial_text ring (take (places ring) names) exponents ≡ monomial_text ring names exponents
+monomial_taken : (ring : Ring) (names : List (List ℕ)) (exponents : List ℕ) → length exponents ≡ places ring
+    → monomial_text ring (take (places ring) names) exponents ≡ monomial_text ring names exponents
 monomial_taken ring names exponents l =
     let v : ℕ = ring.variables in
     let p : ℕ = ring.parameters in
@@ -27,7 +28,8 @@ monomial_taken ring names exponents l =
     ap (λ ns. powers_text ns (drop v exponents)) second ∙ powers_taken p (drop v names) (drop v exponents) few in
     cc (ap (λ ns. powers_text ns (take v exponents)) first)
 
-term_taken : (ring : Ring) (names : List (List ℕ)) (t : Term) → length t.exponents ≡ places ring → term_text ring (take (places ring) names) t ≡ term_text ring names t
+term_taken : (ring : Ring) (names : List (List ℕ)) (t : Term) → length t.exponents ≡ places ring
+    → term_text ring (take (places ring) names) t ≡ term_text ring names t
 term_taken ring names t l = rw (monomial_taken ring names t.exponents l) refl
 
 following_taken : (ring : Ring) (names : List (List ℕ)) (f : List Term) → IsCanonical ring f
@@ -36,6 +38,7 @@ following_taken ring names [] h = refl
 following_taken ring names (t ∷ f) h = cc (term_taken ring names t h.2, following_taken ring names f h.4)
 
 -- more names than places change nothing
-pub polynomial_taken : (ring : Ring) (names : List (List ℕ)) (f : List Term) → IsCanonical ring f → polynomial_text ring (take (places ring) names) f ≡ polynomial_text ring names f
+pub polynomial_taken : (ring : Ring) (names : List (List ℕ)) (f : List Term) → IsCanonical ring f
+    → polynomial_text ring (take (places ring) names) f ≡ polynomial_text ring names f
 polynomial_taken ring names [] h = refl
 polynomial_taken ring names (t ∷ f) h = cc (term_taken ring names t h.2, following_taken ring names f h.4)

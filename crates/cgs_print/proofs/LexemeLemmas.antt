@@ -1,5 +1,6 @@
 -- A text that is one piece of a line, and the lexemes that it reads as.
-use Rattle.std.proofs.Common.{◌≡◌, ℕ, ◌-◌, ◌+◌, ◌^◌, ◌<◌, ◌≤◌, Bool, true, false, cond, ◌==◌, List, [], ◌∷◌, ◌++◌, get_or, length, Result, Ok, Err, refl, sym, ap, ◌∙◌, subst, append_assoc, append-nil, arith, decimal, ltb, slice_range}
+use Rattle.std.proofs.Common.{◌≡◌, ℕ, ◌-◌, ◌+◌, ◌^◌, ◌<◌, ◌≤◌, Bool, true, false, cond, ◌==◌, List, [], ◌∷◌, ◌++◌, get_or, length, Result, Ok, Err, refl, sym}
+use Rattle.std.proofs.Common.{ap, ◌∙◌, subst, append_assoc, append-nil, arith, decimal, ltb, slice_range}
 use Rattle.std.proofs.lemmas.Bool.{le-ltb}
 use Rattle.std.proofs.lemmas.Bool.Decides.{nat_tests}
 use Rattle.std.proofs.lemmas.List.{drop_at, take_at, length-append}
@@ -99,11 +100,13 @@ says_append a b ls ms h s k = record {
 
 -- one token, and then what follows
 
-pub first_said : (line : List ℕ) (t : Token) (read : Result (List Token) TokenFault) → said_in line (with_first t read) ≡ with_lexeme (said line t) (said_in line read)
+pub first_said : (line : List ℕ) (t : Token) (read : Result (List Token) TokenFault)
+    → said_in line (with_first t read) ≡ with_lexeme (said line t) (said_in line read)
 first_said line t (Ok tokens) = refl
 first_said line t (Err e) = refl
 
-tokens_after : (place : ℕ) (t : Token) (c : ℕ) (text rest : List ℕ) → is_blank c ≡ false → token_at place (c ∷ (text ++ rest)) ≡ Ok t → t.end ≡ place + length (c ∷ text)
+tokens_after : (place : ℕ) (t : Token) (c : ℕ) (text rest : List ℕ) → is_blank c ≡ false → token_at place (c ∷ (text ++ rest)) ≡ Ok t
+    → t.end ≡ place + length (c ∷ text)
     → tokens_from 0 place (c ∷ (text ++ rest)) ≡ with_first t (tokens_from 0 (place + length (c ∷ text)) rest)
 unfolding tokens_from
 tokens_after place t c text rest b h e =
@@ -117,7 +120,8 @@ slice_is front text rest =
     let n : (length front + length text) - length front ≡ length text = omega arith in
     rw (n, drop_at front (text ++ rest) (length front) refl) (take_at text rest (length text) refl)
 
-token_said : (front : List ℕ) (k : TokenKind) (c : ℕ) (text rest : List ℕ) → is_blank c ≡ false → token_at (length front) (c ∷ (text ++ rest)) ≡ Ok (spanned k (length front) (length (c ∷ text)))
+token_said : (front : List ℕ) (k : TokenKind) (c : ℕ) (text rest : List ℕ) → is_blank c ≡ false
+    → token_at (length front) (c ∷ (text ++ rest)) ≡ Ok (spanned k (length front) (length (c ∷ text)))
     → said_after front (c ∷ (text ++ rest)) ≡ with_lexeme (said_by k (c ∷ text)) (said_after (front ++ c ∷ text) rest)
 token_said front k c text rest b h =
     let line : List ℕ = front ++ (c ∷ (text ++ rest)) in
@@ -132,7 +136,8 @@ token_said front k c text rest b h =
     ∙ ap (λ m. with_lexeme (said_by k (c ∷ text)) (said_in m (tokens_from 0 (length (front ++ c ∷ text)) rest))) l
 
 token_says : (k : TokenKind) (c : ℕ) (text : List ℕ) → is_blank c ≡ false → Passes is_plain (c ∷ text)
-    → ((place : ℕ) (rest : List ℕ) → Stops is_word rest → token_at place (c ∷ (text ++ rest)) ≡ Ok (spanned k place (length (c ∷ text)))) → Says (c ∷ text) (said_by k (c ∷ text) ∷ [])
+    → ((place : ℕ) (rest : List ℕ) → Stops is_word rest → token_at place (c ∷ (text ++ rest)) ≡ Ok (spanned k place (length (c ∷ text))))
+    → Says (c ∷ text) (said_by k (c ∷ text) ∷ [])
 token_says k c text b p h = record { plain = p; after = λ front rest s. token_said front k c text rest b (h (length front) rest s) }
 
 -- a sign before a text
@@ -142,7 +147,8 @@ sign_says k c text ls b p h s = record {
   plain = (p, s.plain);
   after = λ front rest t.
       token_said front k c [] (text ++ rest) b (h (length front) (text ++ rest))
-      ∙ ap (with_lexeme (said_by k (c ∷ []))) (s.after (front ++ c ∷ []) rest t ∙ ap (λ f. with_lexemes ls (said_after f rest)) (append_assoc front (c ∷ []) text));
+      ∙ ap (with_lexeme (said_by k (c ∷ []))) (s.after (front ++ c ∷ []) rest t
+      ∙ ap (λ f. with_lexemes ls (said_after f rest)) (append_assoc front (c ∷ []) text));
 }
 
 pub times_says : (text : List ℕ) (ls : List Lexeme) → Says text ls → Says (42 ∷ text) (times ∷ ls)
@@ -165,7 +171,8 @@ space_says text ls s = record {
   after = λ front rest t.
       let n : length front + 1 ≡ length (front ++ 32 ∷ []) = sym (length-append front (32 ∷ [])) in
       let l : front ++ (32 ∷ (text ++ rest)) ≡ (front ++ 32 ∷ []) ++ (text ++ rest) = sym (append_assoc front (32 ∷ []) (text ++ rest)) in
-      ap (λ m. said_in (front ++ (32 ∷ (text ++ rest))) (tokens_from 0 m (text ++ rest))) n ∙ ap (λ m. said_in m (tokens_from 0 (length (front ++ 32 ∷ [])) (text ++ rest))) l
+      ap (λ m. said_in (front ++ (32 ∷ (text ++ rest))) (tokens_from 0 m (text ++ rest))) n
+      ∙ ap (λ m. said_in m (tokens_from 0 (length (front ++ 32 ∷ [])) (text ++ rest))) l
       ∙ s.after (front ++ 32 ∷ []) rest t ∙ ap (λ f. with_lexemes ls (said_after f rest)) (append_assoc front (32 ∷ []) text);
 }
 
@@ -223,7 +230,8 @@ digits_say (c ∷ ds) h some short =
 pub decimal_says : (n : ℕ) → n < 10 ^ 18 → Says (decimal n) (number n ∷ [])
 decimal_says n lt =
     let numeral = decimal_is_IsNumeral n (omega arith) in
-    subst (λ k. Says (decimal n) (number k ∷ [])) numeral.1 (digits_say (decimal n) numeral.0.1 numeral.0.0 (length-decimal-le 18 n (omega arith) lt (omega arith)))
+    subst (λ k. Says (decimal n) (number k ∷ [])) numeral.1
+    (digits_say (decimal n) numeral.0.1 numeral.0.0 (length-decimal-le 18 n (omega arith) lt (omega arith)))
 
 -- names
 
@@ -234,7 +242,8 @@ pub record IsName (text : List ℕ) : Type 0 where
   pub some : 0 < length text
   pub short : length text ≤ 32
 
-name_token : (place c : ℕ) (text rest : List ℕ) → IsName (c ∷ text) → Stops is_word rest → token_at place (c ∷ (text ++ rest)) ≡ Ok (spanned kind.Name place (length (c ∷ text)))
+name_token : (place c : ℕ) (text rest : List ℕ) → IsName (c ∷ text) → Stops is_word rest
+    → token_at place (c ∷ (text ++ rest)) ≡ Ok (spanned kind.Name place (length (c ∷ text)))
 unfolding token_at name_at
 name_token place c text rest h s =
     let token : ℕ → Result Token TokenFault = λ n. Ok (spanned kind.Name place n) in
@@ -248,4 +257,5 @@ name_token place c text rest h s =
 
 pub name_says : (text : List ℕ) → IsName text → Says text (name text ∷ [])
 name_says [] h = absurd (let some = h.some in omega arith)
-name_says (c ∷ text) h = token_says kind.Name c text (letter_no_blank c h.letter) (passes_all is_word is_plain word_plain (c ∷ text) h.word) (λ place rest s. name_token place c text rest h s)
+name_says (c ∷ text) h = token_says kind.Name c text (letter_no_blank c h.letter) (passes_all is_word is_plain word_plain (c ∷ text) h.word)
+    (λ place rest s. name_token place c text rest h s)

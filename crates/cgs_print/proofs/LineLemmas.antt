@@ -1,13 +1,14 @@
 -- A printed line is read again, and the text goes on behind it.
-use Rattle.std.proofs.Common.{◌≡◌, ℕ, ◌+◌, ◌==◌, Bool, true, false, cond, ◌&&◌, ltb, leb, List, [], ◌∷◌, ◌++◌, get_or, length, codes, Ok, refl, ap, ◌∙◌, arith, append_assoc, leb-true, ltb-true}
+use Rattle.std.proofs.Common.{◌≡◌, ℕ, ◌+◌, ◌==◌, Bool, true, false, cond, ◌&&◌, ltb, leb, List, [], ◌∷◌, ◌++◌, get_or, length, codes, Ok, refl, ap, ◌∙◌, arith}
+use Rattle.std.proofs.Common.{append_assoc, leb-true, ltb-true}
 use Rattle.std.proofs.lemmas.Bool.Decides.{nat_tests}
 use Rattle.std.specs.List.{list_all}
 use Rattle.std.specs.Char.{is_ascii_alphabetic}
+use Rattle.cgs_list.specs.Results.{and_then}
 use Rattle.cgs_tokens.specs.Tokens.{is_word}
 use Rattle.cgs_problem.specs.Lexemes.{Lexeme, name, line_lexemes}
 use Rattle.cgs_problem.specs.Lines.{on_first, lines_of, without_cr, is_passed_over}
-use Rattle.cgs_problem.specs.Sums.{bind}
-use Rattle.cgs_problem.specs.Drafts.{Stage, field_line, parameters_line, variables_line, order_line, body, ended, Draft, line_said}
+use Rattle.cgs_problem.specs.Drafts.{Stage, field_line, parameters_line, variables_line, order_line, body, ended, PartialProblem, line_said}
 use Rattle.cgs_problem.specs.Reading.{line_read, taken, at_line, read_from}
 use Rattle.cgs_print.proofs.LexemeLemmas.{letter_no_blank, Says, Passes, Stops, is_plain, line_says, IsName, says_append, name_says}
 
@@ -31,7 +32,8 @@ abbrev pub GoesOn : Stage → Type 0
 GoesOn ended = ⊥
 GoesOn stage = Unit {0}
 
-line_read_is : (stage : Stage) (draft : Draft) (line : List ℕ) → GoesOn stage → line_read stage draft line ≡ bind (line_lexemes line) (line_said stage draft)
+line_read_is : (stage : Stage) (draft : PartialProblem) (line : List ℕ) → GoesOn stage
+    → line_read stage draft line ≡ and_then (line_lexemes line) (line_said stage draft)
 line_read_is field_line draft line h = refl
 line_read_is parameters_line draft line h = refl
 line_read_is variables_line draft line h = refl
@@ -39,14 +41,16 @@ line_read_is order_line draft line h = refl
 line_read_is body draft line h = refl
 line_read_is ended draft line h = absurd h
 
-taken_is : (draft next : Draft) (line : List ℕ) (lexemes : List Lexeme) → Says line lexemes → is_passed_over line ≡ false → GoesOn draft.stage → line_said draft.stage draft lexemes ≡ Ok next
+taken_is : (draft next : PartialProblem) (line : List ℕ) (lexemes : List Lexeme) → Says line lexemes → is_passed_over line ≡ false → GoesOn draft.stage
+    → line_said draft.stage draft lexemes ≡ Ok next
     → taken draft (without_cr line) ≡ Ok next
 taken_is draft next line lexemes s shown on said =
     ap (taken draft) (no_cr line s.plain) ∙ ap (λ b. cond b (Ok draft) (line_read draft.stage draft line)) shown ∙ line_read_is draft.stage draft line on
-    ∙ ap (λ l. bind l (line_said draft.stage draft)) (line_says line lexemes s) ∙ said
+    ∙ ap (λ l. and_then l (line_said draft.stage draft)) (line_says line lexemes s) ∙ said
 
 -- A line that says these lexemes makes of the draft what they say.
-line_reads : (n : ℕ) (draft next : Draft) (line rest : List ℕ) (lexemes : List Lexeme) → Says line lexemes → is_passed_over line ≡ false → GoesOn draft.stage
+line_reads : (n : ℕ) (draft next : PartialProblem) (line rest : List ℕ) (lexemes : List Lexeme) → Says line lexemes → is_passed_over line ≡ false
+    → GoesOn draft.stage
     → line_said draft.stage draft lexemes ≡ Ok next
     → read_from n draft (lines_of (line ++ codes "\n" ++ rest)) ≡ read_from (n + 1) next (lines_of rest)
 unfolding read_from
@@ -64,11 +68,14 @@ name_shown [] text h = absurd (let some = h.some in omega arith)
 name_shown (b ∷ word) text h = rw (letter_no_blank b h.letter, letter_no_hash b h.letter) refl
 
 -- A line of a keyword and a text makes of the draft what they say.
-pub keyword_reads : (n : ℕ) (draft next : Draft) (word text rest : List ℕ) (lexemes : List Lexeme) → IsName word → Stops is_word text → Says text lexemes → GoesOn draft.stage
+pub keyword_reads : (n : ℕ) (draft next : PartialProblem) (word text rest : List ℕ) (lexemes : List Lexeme) → IsName word → Stops is_word text
+    → Says text lexemes
+    → GoesOn draft.stage
     → line_said draft.stage draft (name word ∷ lexemes) ≡ Ok next
     → read_from n draft (lines_of (word ++ text ++ codes "\n" ++ rest)) ≡ read_from (n + 1) next (lines_of rest)
 keyword_reads n draft next word text rest lexemes h stop s on said =
-    line_reads n draft next (word ++ text) rest (name word ∷ lexemes) (says_append word text (name word ∷ []) lexemes (name_says word h) stop s) (name_shown word text h) on said
+    line_reads n draft next (word ++ text) rest (name word ∷ lexemes) (says_append word text (name word ∷ []) lexemes (name_says word h) stop s)
+    (name_shown word text h) on said
 
 -- a name that is written out
 

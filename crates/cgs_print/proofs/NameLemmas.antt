@@ -1,5 +1,6 @@
 -- The names that a line says are names.
-use Rattle.std.proofs.Common.{◌≡◌, ℕ, zero, suc, ◌-◌, ◌+◌, ◌≤◌, Bool, true, false, cond, ◌==◌, List, [], ◌∷◌, ◌++◌, get_or, take, length, Result, Ok, Err, refl, sym, ap, ◌∙◌, subst, append_assoc, arith, ltb, ltb-false, slice_range}
+use Rattle.std.proofs.Common.{◌≡◌, ℕ, zero, suc, ◌-◌, ◌+◌, ◌≤◌, Bool, true, false, cond, ◌==◌, List, [], ◌∷◌, ◌++◌, get_or, take, length, Result, Ok, Err, refl}
+use Rattle.std.proofs.Common.{sym, ap, ◌∙◌, subst, append_assoc, arith, ltb, ltb-false, slice_range}
 use Rattle.std.specs.List.{AllByRecursion, prefix_len}
 use Rattle.std.specs.Char.{is_ascii_digit, is_ascii_alphabetic}
 use Rattle.std.proofs.lemmas.Bool.Decides.{nat_tests}
@@ -40,11 +41,13 @@ slice_front front bytes n =
     let k : (length front + n) - length front ≡ n = omega arith in
     rw (k, drop_at front bytes (length front) refl) refl
 
-name_read : (b : ℕ) (bytes : List ℕ) → is_ascii_alphabetic b ≡ true → prefix_len is_word (b ∷ bytes) ≤ 32 → IsName (take (prefix_len is_word (b ∷ bytes)) (b ∷ bytes))
+name_read : (b : ℕ) (bytes : List ℕ) → is_ascii_alphabetic b ≡ true → prefix_len is_word (b ∷ bytes) ≤ 32
+    → IsName (take (prefix_len is_word (b ∷ bytes)) (b ∷ bytes))
 name_read b bytes letter short =
     let n : prefix_len is_word (b ∷ bytes) ≡ suc (prefix_len is_word bytes) = rw (letter_word b letter) (omega arith) in
     let le : prefix_len is_word (b ∷ bytes) ≤ length (b ∷ bytes) = prefix_len-le-length is_word (b ∷ bytes) in
-    let l : length (take (prefix_len is_word (b ∷ bytes)) (b ∷ bytes)) ≡ prefix_len is_word (b ∷ bytes) = omega (arith, length-take (prefix_len is_word (b ∷ bytes)) (b ∷ bytes)) in
+    let l : length (take (prefix_len is_word (b ∷ bytes)) (b ∷ bytes)) ≡ prefix_len is_word (b ∷ bytes) =
+    omega (arith, length-take (prefix_len is_word (b ∷ bytes)) (b ∷ bytes)) in
     let first : get_or (take (prefix_len is_word (b ∷ bytes)) (b ∷ bytes)) 0 0 ≡ b = ap (λ k. get_or (take k (b ∷ bytes)) 0 0) n in
     record {
       letter = ap is_ascii_alphabetic first ∙ letter;
@@ -76,7 +79,8 @@ token_named front b bytes = first (is_ascii_alphabetic b) refl
     numbered false = tt
 
     signed : (p m t w : Bool)
-        → good (cond p (Ok (spanned kind.Plus place 1)) (cond m (Ok (spanned kind.Minus place 1)) (cond t (Ok (spanned kind.Times place 1)) (cond w (Ok (spanned kind.Power place 1)) (Err (Byte place))))))
+        → good (cond p (Ok (spanned kind.Plus place 1))
+        (cond m (Ok (spanned kind.Minus place 1)) (cond t (Ok (spanned kind.Times place 1)) (cond w (Ok (spanned kind.Power place 1)) (Err (Byte place))))))
     signed true m t w = tt
     signed false true t w = tt
     signed false false true w = tt
@@ -87,7 +91,8 @@ token_named front b bytes = first (is_ascii_alphabetic b) refl
     other true = numbered (ltb 18 (prefix_len is_ascii_digit (b ∷ bytes)))
     other false = signed (b == 43) (b == 45) (b == 42) (b == 94)
 
-    first : (t : Bool) → is_ascii_alphabetic b ≡ t → good (cond t (name_at place (b ∷ bytes)) (cond (is_ascii_digit b) (number_at place (b ∷ bytes)) (sign_at place b)))
+    first : (t : Bool) → is_ascii_alphabetic b ≡ t
+        → good (cond t (name_at place (b ∷ bytes)) (cond (is_ascii_digit b) (number_at place (b ∷ bytes)) (sign_at place b)))
     first true e = named (ltb 32 (prefix_len is_word (b ∷ bytes))) e refl
     first false e = other (is_ascii_digit b)
 
@@ -101,12 +106,14 @@ joined_named line (Ok t) f h k = subst (Holds (AllByRecursion IsLexeme)) (sym (f
     before (Ok lexemes) g = (h, g)
     before (Err e) g = tt
 
-further : (front : List ℕ) (b : ℕ) (bytes : List ℕ) (k : ℕ) → Holds (AllByRecursion IsLexeme) (said_in ((front ++ b ∷ []) ++ bytes) (tokens_from k (length (front ++ b ∷ [])) bytes))
+further : (front : List ℕ) (b : ℕ) (bytes : List ℕ) (k : ℕ)
+    → Holds (AllByRecursion IsLexeme) (said_in ((front ++ b ∷ []) ++ bytes) (tokens_from k (length (front ++ b ∷ [])) bytes))
     → Holds (AllByRecursion IsLexeme) (said_in (front ++ b ∷ bytes) (tokens_from k (length front + 1) bytes))
 further front b bytes k h =
     let n : length (front ++ b ∷ []) ≡ length front + 1 = length-append front (b ∷ []) in
     let l : (front ++ b ∷ []) ++ bytes ≡ front ++ b ∷ bytes = append_assoc front (b ∷ []) bytes in
-    subst (Holds (AllByRecursion IsLexeme)) (ap (λ m. said_in ((front ++ b ∷ []) ++ bytes) (tokens_from k m bytes)) n ∙ ap (λ m. said_in m (tokens_from k (length front + 1) bytes)) l) h
+    subst (Holds (AllByRecursion IsLexeme)) (ap (λ m. said_in ((front ++ b ∷ []) ++ bytes) (tokens_from k m bytes)) n
+    ∙ ap (λ m. said_in m (tokens_from k (length front + 1) bytes)) l) h
 
 tokens_named : (skip : ℕ) (front bytes : List ℕ) → Holds (AllByRecursion IsLexeme) (said_in (front ++ bytes) (tokens_from skip (length front) bytes))
 unfolding tokens_from
@@ -116,9 +123,13 @@ tokens_named (suc skip) front (b ∷ bytes) = further front b bytes skip (tokens
 tokens_named zero front (b ∷ bytes) = step (is_blank b) (λ k. further front b bytes k (tokens_named k (front ++ b ∷ []) bytes))
   where
     step : (t : Bool) → ((k : ℕ) → Holds (AllByRecursion IsLexeme) (said_in (front ++ b ∷ bytes) (tokens_from k (length front + 1) bytes)))
-        → Holds (AllByRecursion IsLexeme) (said_in (front ++ b ∷ bytes) (cond t (tokens_from 0 (length front + 1) bytes) (and_then (token_at (length front) (b ∷ bytes)) (λ token. with_first token (tokens_from (token.end - (length front + 1)) (length front + 1) bytes)))))
+        → Holds (AllByRecursion IsLexeme) (said_in (front ++ b ∷ bytes)
+        (cond t (tokens_from 0 (length front + 1) bytes)
+        (and_then (token_at (length front) (b ∷ bytes))
+        (λ token. with_first token (tokens_from (token.end - (length front + 1)) (length front + 1) bytes)))))
     step true ih = ih 0
-    step false ih = joined_named (front ++ b ∷ bytes) (token_at (length front) (b ∷ bytes)) (λ token. tokens_from (token.end - (length front + 1)) (length front + 1) bytes) (token_named front b bytes) (λ t. ih (t.end - (length front + 1)))
+    step false ih = joined_named (front ++ b ∷ bytes) (token_at (length front) (b ∷ bytes))
+        (λ token. tokens_from (token.end - (length front + 1)) (length front + 1) bytes) (token_named front b bytes) (λ t. ih (t.end - (length front + 1)))
 
 -- The names that a line says are names.
 pub lexemes_named : (line : List ℕ) → Holds (AllByRecursion IsLexeme) (line_lexemes line)

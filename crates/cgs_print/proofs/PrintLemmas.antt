@@ -1,5 +1,6 @@
 -- A text that is appended piece after piece: what is there, and what is left.
-use Rattle.std.proofs.Common.{ℕ, suc, ◌≡◌, ◌+◌, ◌<◌, ◌≤◌, List, [], ◌++◌, take, drop, length, get_or, Result, Ok, Err, refl, sym, ap, ◌∙◌, subst, append_assoc, add-one}
+use Rattle.std.proofs.Common.{ℕ, suc, ◌≡◌, ◌+◌, ◌<◌, ◌≤◌, List, [], ◌++◌, take, drop, length, get_or, Result, Ok, Err, refl, sym, ap, ◌∙◌, subst, append_assoc}
+use Rattle.std.proofs.Common.{add-one}
 use Rattle.std.proofs.lemmas.List.{append-nil, take-append-drop, take_at, drop_all}
 use Rattle.std.proofs.Math.Seq.{drop-cons}
 use Rattle.std.specs.Result.{OnOk, OnErr, IsErr}
@@ -42,7 +43,8 @@ front_of_rest {old = old} {text = text} rest l (n, e) =
 pub front_kept : {old mid new text rest : List ℕ} → Leaves old mid text rest → new ≡ mid → AppendsFront old new text
 front_kept {mid = mid} {rest = rest} l e = front_of_rest rest l (0, e ∙ sym (append-nil mid))
 
-pub front_of_piece : {old mid new text : List ℕ} (piece rest : List ℕ) → Leaves old mid text (piece ++ rest) → AppendsFront mid new piece → AppendsFront old new text
+pub front_of_piece : {old mid new text : List ℕ} (piece rest : List ℕ) → Leaves old mid text (piece ++ rest) → AppendsFront mid new piece
+    → AppendsFront old new text
 front_of_piece {mid = mid} {new = new} piece rest l (n, e) =
     let first : Leaves mid (mid ++ take n piece) (piece ++ rest) (drop n piece ++ rest) = record {
       done = take n piece;
@@ -58,7 +60,8 @@ at_exit (Ok done) old new text h f = absurd (cc)
 at_exit (Err e) old new text h f = f
 
 -- a last call, whose answer is returned as it is
-pub ends : {E : Type 0} (r : Result (Unit {0}) E) {old mid text : List ℕ} (new piece : List ℕ) → Leaves old mid text piece → Prints r mid new piece → Prints r old new text
+pub ends : {E : Type 0} (r : Result (Unit {0}) E) {old mid text : List ℕ} (new piece : List ℕ) → Leaves old mid text piece → Prints r mid new piece
+    → Prints r old new text
 ends (Ok done) {old = old} new piece l p =
     p ∙ ap (λ (xs : List ℕ). xs ++ piece) l.appended ∙ append_assoc old l.done piece ∙ ap (λ (xs : List ℕ). old ++ xs) (sym l.whole)
 ends (Err e) new piece l p = front_of_rest piece l p
@@ -75,7 +78,8 @@ next_item f items i item rest h =
     rw (add-one) (ap (λ xs. flat_map f xs ++ rest) (drop-cons items i item h) ∙ append_assoc (f (get_or items i item)) (flat_map f (drop (suc i) items)) rest)
 
 pub leaves_item : {A : Type 0} (f : A → List ℕ) (items : List A) (i : ℕ) (item : A) {old mid new text : List ℕ} (rest : List ℕ) → i < length items
-    → Leaves old mid text (flat_map f (drop i items) ++ rest) → new ≡ mid ++ f (get_or items i item) → Leaves old new text (flat_map f (drop (i + 1) items) ++ rest)
+    → Leaves old mid text (flat_map f (drop i items) ++ rest) → new ≡ mid ++ f (get_or items i item)
+    → Leaves old new text (flat_map f (drop (i + 1) items) ++ rest)
 leaves_item f items i item rest h l e =
     leaves_rest (f (get_or items i item)) (flat_map f (drop (i + 1) items) ++ rest) (leaves_equal _ l (next_item f items i item rest h)) e
 
@@ -105,6 +109,7 @@ front_second old mid new first second e f = front_of_rest second (leaves_rest fi
 pub both_parts : (old mid new first second : List ℕ) → mid ≡ old ++ first → new ≡ mid ++ second → new ≡ old ++ (first ++ second)
 both_parts old mid new first second e d = d ∙ ap (λ (xs : List ℕ). xs ++ second) e ∙ append_assoc old first second
 
-pub last_part : {E : Type 0} (r : Result (Unit {0}) E) (old mid new first second : List ℕ) → mid ≡ old ++ first → Prints r mid new second → Prints r old new (first ++ second)
+pub last_part : {E : Type 0} (r : Result (Unit {0}) E) (old mid new first second : List ℕ) → mid ≡ old ++ first → Prints r mid new second
+    → Prints r old new (first ++ second)
 last_part (Ok done) old mid new first second e p = both_parts old mid new first second e p
 last_part (Err failed) old mid new first second e p = front_second old mid new first second e p

@@ -28,7 +28,8 @@ polynomial_left ring names (x ∷ f) t old e =
     (ap (λ y. term_text ring names y ++ plus) same ∙ ap (λ (xs : List ℕ). term_text ring names t ++ xs) (sym (append-nil plus)))
 
 pub terms_left : (ring : Ring) (names : List (List ℕ)) (f : List Term) (i : ℕ) (t : Term) (old mid text : List ℕ) → i < length f → slice_get f i ≡ Some t
-    → Leaves old mid text (following_terms ring names (drop i f)) → Leaves old mid text (codes "+" ++ (term_text ring names t ++ following_terms ring names (drop (i + 1) f)))
+    → Leaves old mid text (following_terms ring names (drop i f))
+    → Leaves old mid text (codes "+" ++ (term_text ring names t ++ following_terms ring names (drop (i + 1) f)))
 terms_left ring names f i t old mid text h e l =
     leaves_equal _ l (next_item (λ term. codes "+" ++ term_text ring names term) f i t [] h
     ∙ ap (λ y. codes "+" ++ (term_text ring names y ++ following_terms ring names (drop (i + 1) f))) (get_or_from_slice_get f i t t e))

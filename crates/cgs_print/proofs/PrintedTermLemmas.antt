@@ -1,5 +1,6 @@
 -- A term: its coefficient, unless it is left out, and the powers of the parameters and of the variables.
-use Rattle.std.proofs.Common.{ℕ, ◌≡◌, ◌-◌, min, Bool, true, false, not, ◌&&◌, ◌==◌, cond, List, [], ◌∷◌, ◌++◌, take, drop, length, codes, decimal, refl, sym, ap, ◌∙◌, append_assoc}
+use Rattle.std.proofs.Common.{ℕ, ◌≡◌, ◌-◌, min, Bool, true, false, not, ◌&&◌, ◌==◌, cond, List, [], ◌∷◌, ◌++◌, take, drop, length, codes, decimal, refl, sym}
+use Rattle.std.proofs.Common.{ap, ◌∙◌, append_assoc}
 use Rattle.std.proofs.lemmas.List.{length-take, length-drop, take-append-drop}
 use Rattle.std.proofs.lemmas.List.Concat.{flat_map-append}
 use Rattle.std.proofs.lemmas.List.Folds.{list_all-append}
@@ -21,7 +22,8 @@ no_powers_cond true power powers = refl
 no_powers_cond false power powers = refl
 
 -- no power is printed where each exponent is 0
-no_powers_of : (names : List (List ℕ)) (exponents : List ℕ) → length names ≡ length exponents → no_powers (powers_text names exponents) ≡ list_all is_zero exponents
+no_powers_of : (names : List (List ℕ)) (exponents : List ℕ) → length names ≡ length exponents
+    → no_powers (powers_text names exponents) ≡ list_all is_zero exponents
 no_powers_of [] [] h = refl
 no_powers_of [] (exponent ∷ exponents) h = cc
 no_powers_of (name ∷ names) [] h = cc
@@ -44,7 +46,8 @@ joined factors = join_by (λ factor. factor) (codes "*") factors
 
 factors_joined : (coefficient : ℕ) (powers others : List (List ℕ)) (b : Bool) → (coefficient == 1) ≡ b
     → joined (factors_text coefficient (powers ++ others))
-    ≡ cond (b && not (no_powers (powers ++ others))) [] (decimal coefficient) ++ (following (b && not (no_powers (powers ++ others))) powers ++ following ((b && not (no_powers (powers ++ others))) && no_powers powers) others)
+    ≡ cond (b && not (no_powers (powers ++ others))) [] (decimal coefficient)
+    ++ (following (b && not (no_powers (powers ++ others))) powers ++ following ((b && not (no_powers (powers ++ others))) && no_powers powers) others)
 factors_joined coefficient [] [] true e = refl
 factors_joined coefficient [] [] false e = refl
 factors_joined coefficient [] (power ∷ others) true e = ap (λ b. joined (cond b (power ∷ others) (decimal coefficient ∷ power ∷ others))) e

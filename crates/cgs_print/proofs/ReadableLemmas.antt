@@ -1,5 +1,6 @@
 -- What a polynomial line spells is a polynomial that may be printed and read again.
-use Rattle.std.proofs.Common.{◌≡◌, ℕ, zero, suc, ◌+◌, ◌%◌, eqb, ◌<◌, ◌≤◌, ◌⊎◌, inl, inr, Bool, true, false, cond, ltb, ltb-true, ltb-false, List, [], ◌∷◌, get_or, take, length, set, replicate, Result, Ok, Err, Some, None, refl, ap, ◌∙◌, arith, bytes_eq}
+use Rattle.std.proofs.Common.{◌≡◌, ℕ, zero, suc, ◌+◌, ◌%◌, eqb, ◌<◌, ◌≤◌, ◌⊎◌, inl, inr, Bool, true, false, cond, ltb, ltb-true, ltb-false, List, [], ◌∷◌}
+use Rattle.std.proofs.Common.{get_or, take, length, set, replicate, Result, Ok, Err, Some, None, refl, ap, ◌∙◌, arith, bytes_eq}
 use Rattle.std.specs.List.{AllByRecursion, position_or_len}
 use Rattle.std.specs.declared.cmp.Ordering.{Ordering}
 use Rattle.std.specs.declared.cmp.Ordering.TheVariants.{Less, Equal, Greater}
@@ -11,10 +12,12 @@ use Rattle.cgs_order.specs.TermOrder.{compared}
 use Rattle.cgs_poly.specs.declared.ring.Ring.{Ring}
 use Rattle.cgs_poly.specs.Polynomial.{Term, term, places, order_of, kept, inserted, canonical, greatest_degree, IsOfRing}
 use Rattle.cgs_poly.proofs.CanonicalLemmas.{is_canonical}
+use Rattle.cgs_list.specs.Results.{and_then}
 use Rattle.cgs_problem.specs.declared.fault.TextKind.{TextKind}
 use Rattle.cgs_problem.specs.declared.fault.TextKind.TheVariants as fault
 use Rattle.cgs_problem.specs.Lexemes.{Lexeme, name, number, plus, minus, times, power}
-use Rattle.cgs_problem.specs.Sums.{Reader, bind, place_in, place_of, exponent_of, times_number, times_power, one, minus_one, with_term, product, follow, terms_said, polynomial_said}
+use Rattle.cgs_problem.specs.Sums.{Reader, place_in, place_of, exponent_of, times_number, times_power, one, minus_one, with_term, product, follow}
+use Rattle.cgs_problem.specs.Sums.{terms_said, polynomial_said}
 use Rattle.cgs_print.proofs.MonomialLemmas.{IsAllowed}
 use Rattle.cgs_print.proofs.PolynomialLemmas.{IsReadable}
 use Rattle.cgs_print.proofs.NameLemmas.{Holds}
@@ -24,7 +27,8 @@ pub record IsBarred (reader : Reader) : Type 0 where
   pub named : length reader.names ≡ places reader.ring
   pub barred : (reader.barred ≡ 0) ⊎ (reader.barred ≡ reader.ring.variables)
 
-pub bind_holds : {A B : Type 0} (P : A → Type 0) (Q : B → Type 0) (r : Result A TextKind) (f : A → Result B TextKind) → Holds P r → ((x : A) → P x → Holds Q (f x)) → Holds Q (bind r f)
+pub bind_holds : {A B : Type 0} (P : A → Type 0) (Q : B → Type 0) (r : Result A TextKind) (f : A → Result B TextKind) → Holds P r
+    → ((x : A) → P x → Holds Q (f x)) → Holds Q (and_then r f)
 bind_holds P Q (Ok x) f h k = k x h
 bind_holds P Q (Err e) f h k = tt
 
@@ -43,7 +47,8 @@ one_allowed reader h = record {
   free = elim h.barred [ inl none ↦ inl none | inr all ↦ inr (take_zeros reader.ring.variables reader.ring.parameters) ];
 }
 
-raised_allowed : (reader : Reader) (es : List ℕ) (place e : ℕ) → IsBarred reader → IsAllowed reader es → place < length es → reader.barred ≤ place → degree es + e ≤ reader.most
+raised_allowed : (reader : Reader) (es : List ℕ) (place e : ℕ) → IsBarred reader → IsAllowed reader es → place < length es → reader.barred ≤ place
+    → degree es + e ≤ reader.most
     → IsAllowed reader (set es place (get_or es place 0 + e))
 raised_allowed reader es place e b h lt le low = record {
   places = length-set es place (get_or es place 0 + e) ∙ h.places;
@@ -54,7 +59,8 @@ raised_allowed reader es place e b h lt le low = record {
     further : take reader.ring.variables es ≡ replicate reader.ring.variables 0 → (reader.barred ≡ 0) ⊎ (reader.barred ≡ reader.ring.variables)
         → (reader.barred ≡ 0) ⊎ (take reader.ring.variables (set es place (get_or es place 0 + e)) ≡ replicate reader.ring.variables 0)
     further absent (inl none) = inl none
-    further absent (inr all) = let v : reader.ring.variables ≤ place = omega arith in inr (take-set-le reader.ring.variables es place (get_or es place 0 + e) v ∙ absent)
+    further absent (inr all) = let v : reader.ring.variables ≤ place =
+        omega arith in inr (take-set-le reader.ring.variables es place (get_or es place 0 + e) v ∙ absent)
 
 place_known : (reader : Reader) (word : List ℕ) → Holds (λ place. (place < length reader.names) × (reader.barred ≤ place)) (place_of reader word)
 place_known reader word = found (ltb (position_or_len (bytes_eq word) reader.names) (length reader.names)) refl
@@ -73,19 +79,22 @@ place_known reader word = found (ltb (position_or_len (bytes_eq word) reader.nam
     found true e = free (ltb at reader.barred) refl (ltb-true _ _ e)
     found false e = tt
 
-power_allowed : (reader : Reader) (t : Term) (place e : ℕ) → IsBarred reader → IsAllowed reader t.exponents → (place < length reader.names) × (reader.barred ≤ place)
+power_allowed : (reader : Reader) (t : Term) (place e : ℕ) → IsBarred reader → IsAllowed reader t.exponents
+    → (place < length reader.names) × (reader.barred ≤ place)
     → Holds (λ (next : Term). IsAllowed reader next.exponents) (times_power reader place e t)
 power_allowed reader t place e b h p = step (ltb reader.most (degree t.exponents + e)) refl
   where
     step : (s : Bool) → ltb reader.most (degree t.exponents + e) ≡ s
-        → Holds (λ (next : Term). IsAllowed reader next.exponents) (cond s (Err fault.Degree) (Ok (term t.coefficient (set t.exponents place (get_or t.exponents place 0 + e)))))
+        → Holds (λ (next : Term). IsAllowed reader next.exponents)
+        (cond s (Err fault.Degree) (Ok (term t.coefficient (set t.exponents place (get_or t.exponents place 0 + e)))))
     step true q = tt
     step false q = raised_allowed reader t.exponents place e b h (let n = b.named in let m = h.places in let l = p.0 in omega arith) p.1 (ltb-false _ _ q)
 
 abbrev AllAllowed : Reader → List Term → Type 0
 AllAllowed reader terms = AllByRecursion (λ (t : Term). IsAllowed reader t.exponents) terms
 
-term_before : (reader : Reader) (t : Term) (read : Result (List Term) TextKind) → IsAllowed reader t.exponents → Holds (AllAllowed reader) read → Holds (AllAllowed reader) (with_term t read)
+term_before : (reader : Reader) (t : Term) (read : Result (List Term) TextKind) → IsAllowed reader t.exponents → Holds (AllAllowed reader) read
+    → Holds (AllAllowed reader) (with_term t read)
 term_before reader t (Ok terms) h k = (h, k)
 term_before reader t (Err e) h k = tt
 
@@ -105,24 +114,35 @@ IsNext reader next = IsAllowed reader next.exponents
 mutual
   unfolding product follow
 
-  product_allowed : (reader : Reader) (t : Term) (lexemes : List Lexeme) → IsBarred reader → IsAllowed reader t.exponents → Holds (AllAllowed reader) (product reader t lexemes)
+  product_allowed : (reader : Reader) (t : Term) (lexemes : List Lexeme) → IsBarred reader → IsAllowed reader t.exponents
+      → Holds (AllAllowed reader) (product reader t lexemes)
   product_allowed reader t [] b h = tt
   product_allowed reader t (number n ∷ lexemes) b h = follow_allowed reader (times_number reader n t) lexemes b h
   product_allowed reader t (name word ∷ power ∷ number n ∷ lexemes) b h =
-      bind_holds (IsPlaceIn reader) (AllAllowed reader) (place_of reader word) (λ place. bind (exponent_of n) (λ exponent. bind (times_power reader place exponent t) (λ next. follow reader next lexemes))) (place_known reader word)
-      (λ place p. bind_holds (λ e. Unit {0}) (AllAllowed reader) (exponent_of n) (λ exponent. bind (times_power reader place exponent t) (λ next. follow reader next lexemes)) (exponent_known n)
-      (λ e u. bind_holds (IsNext reader) (AllAllowed reader) (times_power reader place e t) (λ next. follow reader next lexemes) (power_allowed reader t place e b h p) (λ next k. follow_allowed reader next lexemes b k)))
-  product_allowed reader t (name word ∷ power ∷ lexemes) b h = bind_holds (IsPlaceIn reader) (AllAllowed reader) (place_of reader word) (λ place. Err fault.Syntax) (place_known reader word) (λ place p. tt)
+      bind_holds (IsPlaceIn reader) (AllAllowed reader) (place_of reader word)
+      (λ place. and_then (exponent_of n) (λ exponent. and_then (times_power reader place exponent t) (λ next. follow reader next lexemes)))
+      (place_known reader word)
+      (λ place p. bind_holds (λ e. Unit {0}) (AllAllowed reader) (exponent_of n)
+      (λ exponent. and_then (times_power reader place exponent t) (λ next. follow reader next lexemes)) (exponent_known n)
+      (λ e u. bind_holds (IsNext reader) (AllAllowed reader) (times_power reader place e t) (λ next. follow reader next lexemes)
+      (power_allowed reader t place e b h p) (λ next k. follow_allowed reader next lexemes b k)))
+  product_allowed reader t (name word ∷ power ∷ lexemes) b h =
+      bind_holds (IsPlaceIn reader) (AllAllowed reader) (place_of reader word) (λ place. Err fault.Syntax) (place_known reader word) (λ place p. tt)
   product_allowed reader t (name word ∷ lexemes) b h =
-      bind_holds (IsPlaceIn reader) (AllAllowed reader) (place_of reader word) (λ place. bind (times_power reader place 1 t) (λ next. follow reader next lexemes)) (place_known reader word)
-      (λ place p. bind_holds (IsNext reader) (AllAllowed reader) (times_power reader place 1 t) (λ next. follow reader next lexemes) (power_allowed reader t place 1 b h p) (λ next k. follow_allowed reader next lexemes b k))
+      bind_holds (IsPlaceIn reader) (AllAllowed reader) (place_of reader word)
+      (λ place. and_then (times_power reader place 1 t) (λ next. follow reader next lexemes)) (place_known reader word)
+      (λ place p. bind_holds (IsNext reader) (AllAllowed reader) (times_power reader place 1 t) (λ next. follow reader next lexemes)
+      (power_allowed reader t place 1 b h p) (λ next k. follow_allowed reader next lexemes b k))
   product_allowed reader t (lexeme ∷ lexemes) b h = tt
 
-  follow_allowed : (reader : Reader) (t : Term) (lexemes : List Lexeme) → IsBarred reader → IsAllowed reader t.exponents → Holds (AllAllowed reader) (follow reader t lexemes)
+  follow_allowed : (reader : Reader) (t : Term) (lexemes : List Lexeme) → IsBarred reader → IsAllowed reader t.exponents
+      → Holds (AllAllowed reader) (follow reader t lexemes)
   follow_allowed reader t [] b h = (h, tt)
   follow_allowed reader t (times ∷ lexemes) b h = product_allowed reader t lexemes b h
-  follow_allowed reader t (plus ∷ lexemes) b h = term_before reader t (product reader (one reader) lexemes) h (product_allowed reader (one reader) lexemes b (one_allowed reader b))
-  follow_allowed reader t (minus ∷ lexemes) b h = term_before reader t (product reader (minus_one reader) lexemes) h (product_allowed reader (minus_one reader) lexemes b (one_allowed reader b))
+  follow_allowed reader t (plus ∷ lexemes) b h =
+      term_before reader t (product reader (one reader) lexemes) h (product_allowed reader (one reader) lexemes b (one_allowed reader b))
+  follow_allowed reader t (minus ∷ lexemes) b h =
+      term_before reader t (product reader (minus_one reader) lexemes) h (product_allowed reader (minus_one reader) lexemes b (one_allowed reader b))
   follow_allowed reader t (lexeme ∷ lexemes) b h = tt
 
 terms_allowed : (reader : Reader) (lexemes : List Lexeme) → IsBarred reader → Holds (AllAllowed reader) (terms_said reader lexemes)
@@ -147,7 +167,8 @@ module _ (P : List ℕ → Type 0) where
   of_inserted ring c m [] p h = of_kept ring c m [] p tt
   of_inserted ring c m (y ∷ f) p h = step (compared (order_of ring) m y.exponents) (of_inserted ring c m f p h.1)
     where
-      step : (o : Ordering) → OfEach (inserted ring c m f) → OfEach (elim o [ Less ↦ y ∷ inserted ring c m f | Equal ↦ kept ring (c + y.coefficient) m f | Greater ↦ kept ring c m (y ∷ f) ])
+      step : (o : Ordering) → OfEach (inserted ring c m f)
+          → OfEach (elim o [ Less ↦ y ∷ inserted ring c m f | Equal ↦ kept ring (c + y.coefficient) m f | Greater ↦ kept ring c m (y ∷ f) ])
       step Less ih = (h.0, ih)
       step Equal ih = of_kept ring (c + y.coefficient) m f p h.1
       step Greater ih = of_kept ring c m (y ∷ f) p h
@@ -161,7 +182,12 @@ of_ring reader [] h = tt
 of_ring reader (t ∷ f) h = (h.0.places, of_ring reader f h.1)
 
 -- The polynomial of a line is readable.
-pub polynomial_readable : (reader : Reader) (lexemes : List Lexeme) → 0 < reader.ring.modulus → IsBarred reader → Holds (IsReadable reader) (polynomial_said reader lexemes)
+pub polynomial_readable : (reader : Reader) (lexemes : List Lexeme) → 0 < reader.ring.modulus → IsBarred reader
+    → Holds (IsReadable reader) (polynomial_said reader lexemes)
 polynomial_readable reader lexemes pos b =
     bind_holds (AllAllowed reader) (IsReadable reader) (terms_said reader lexemes) (λ terms. Ok (canonical reader.ring terms)) (terms_allowed reader lexemes b)
-    (λ terms h. record { canonical = is_canonical reader.ring terms pos (of_ring reader terms h); allowed = of_canonical (IsAllowed reader) reader.ring terms h })
+    (λ terms h. record {
+      canonical = is_canonical reader.ring terms pos (of_ring reader terms h);
+      allowed =
+          of_canonical (IsAllowed reader) reader.ring terms h;
+    })

@@ -2,14 +2,14 @@
 use Rattle.std.proofs.Common.{◌≡◌, ℕ, List, ◌++◌, codes, Ok, ap, ◌∙◌, append_assoc, subst}
 use Rattle.cgs_problem.specs.declared.problem.Problem.{Problem}
 use Rattle.cgs_problem.specs.Lines.{lines_of}
-use Rattle.cgs_problem.specs.Drafts.{Draft, nothing}
+use Rattle.cgs_problem.specs.Drafts.{PartialProblem, nothing}
 use Rattle.cgs_problem.specs.Reading.{problem_of, read_from, problem_spelled}
 use Rattle.cgs_print.specs.Printing.{header_text, body_text, problem_text}
 use Rattle.cgs_print.proofs.HeaderLemmas.{HasHeader, header_reads}
 use Rattle.cgs_print.proofs.BodyLemmas.{IsBody, body_reads}
 use Rattle.cgs_print.proofs.SpelledLemmas.{IsSpelled, spelled_valid}
 
-draft_reads : (d : Draft) → HasHeader d → IsBody d → problem_spelled (problem_text (problem_of d)) ≡ Ok (problem_of d)
+draft_reads : (d : PartialProblem) → HasHeader d → IsBody d → problem_spelled (problem_text (problem_of d)) ≡ Ok (problem_of d)
 draft_reads d h b =
     ap (λ text. read_from 1 nothing (lines_of text)) (append_assoc (header_text (problem_of d)) (body_text (problem_of d)) (codes "end\n"))
     ∙ header_reads d (body_text (problem_of d) ++ codes "end\n") h

@@ -1,11 +1,12 @@
 -- A printed term is read again: its coefficient, unless that is left out, and its powers.
-use Rattle.std.proofs.Common.{◌≡◌, ℕ, ◌*◌, ◌%◌, ◌<◌, ◌≤◌, Bool, true, false, cond, eqb, List, [], ◌∷◌, ◌++◌, take, drop, replicate, codes, decimal, refl, sym, ap, ◌∙◌, arith, if◌then◌else◌, ◌==◌}
+use Rattle.std.proofs.Common.{◌≡◌, ℕ, ◌*◌, ◌%◌, ◌<◌, ◌≤◌, Bool, true, false, cond, eqb, List, [], ◌∷◌, ◌++◌, take, drop, replicate, codes, decimal, refl, sym}
+use Rattle.std.proofs.Common.{ap, ◌∙◌, arith, if◌then◌else◌, ◌==◌}
 use Rattle.std.specs.List.{AllByRecursion, join_by}
 use Rattle.std.proofs.Math.Nat.{mod-eq_of_lt, one-mul}
 use Rattle.std.proofs.lemmas.Bool.{eqb-true}
 use Rattle.cgs_exps.specs.Monomial.{degree}
 use Rattle.cgs_poly.specs.declared.ring.Ring.{Ring}
-use Rattle.cgs_poly.specs.Polynomial.{Term, term, places}
+use Rattle.cgs_poly.specs.Polynomial.{Term, term, places, greatest_degree}
 use Rattle.cgs_problem.specs.Lexemes.{Lexeme, name, number, plus, minus, times, power}
 use Rattle.cgs_problem.specs.Sums.{Reader, product, follow, one}
 use Rattle.cgs_print.specs.Printing.{factors_text, term_text, monomial_text}
@@ -29,13 +30,16 @@ factors_say c (x ∷ a) [] small h = absurd h
 factors_say c (text ∷ texts) (piece ∷ pieces) small h = step (eqb c 1)
   where
     step : (b : Bool)
-        → Says (join_by (λ factor. factor) (codes "*") (cond b (text ∷ texts) (decimal c ∷ text ∷ texts))) (cond b (piece ++ after times pieces) (number c ∷ after times (piece ∷ pieces)))
+        → Says (join_by (λ factor. factor) (codes "*") (cond b (text ∷ texts) (decimal c ∷ text ∷ texts)))
+        (cond b (piece ++ after times pieces) (number c ∷ after times (piece ∷ pieces)))
     step true = says_append text _ piece (after times pieces) h.0 (times_stops texts) (times_joined texts pieces h.1)
-    step false = says_append (decimal c) _ (number c ∷ []) (after times (piece ∷ pieces)) (decimal_says c (omega arith)) refl (times_joined (text ∷ texts) (piece ∷ pieces) h)
+    step false = says_append (decimal c) _ (number c ∷ []) (after times (piece ∷ pieces)) (decimal_says c (omega arith)) refl
+        (times_joined (text ∷ texts) (piece ∷ pieces) h)
 
-pub term_says : (ring : Ring) (names : List (List ℕ)) (t : Term) → AllByRecursion IsName names → t.coefficient < 65536 → degree t.exponents ≤ 32767
+pub term_says : (ring : Ring) (names : List (List ℕ)) (t : Term) → AllByRecursion IsName names → t.coefficient < 65536 → degree t.exponents ≤ greatest_degree
     → Says (term_text ring names t) (term_said ring names t)
-term_says ring names t h small low = factors_say t.coefficient (monomial_text ring names t.exponents) (monomial_said ring names t.exponents) small (monomial_says ring names t.exponents h low)
+term_says ring names t h small low = factors_say t.coefficient (monomial_text ring names t.exponents) (monomial_said ring names t.exponents) small
+    (monomial_says ring names t.exponents h low)
 
 -- a coefficient, or none for 1, and then the powers
 
@@ -59,10 +63,12 @@ factors_read reader c (piece ∷ pieces) rest small = step (eqb c 1) refl
     step false e = number_reads reader c (after times (piece ∷ pieces) ++ rest) small
 
 -- A printed term, read after 1, makes the term.
-pub term_reads : (reader : Reader) (t : Term) (rest : List Lexeme) → IsReader reader → t.coefficient < reader.ring.modulus → IsAllowed reader t.exponents → NoPower rest
+pub term_reads : (reader : Reader) (t : Term) (rest : List Lexeme) → IsReader reader → t.coefficient < reader.ring.modulus → IsAllowed reader t.exponents
+    → NoPower rest
     → product reader (one reader) (term_said reader.ring reader.names t ++ rest) ≡ follow reader t rest
 term_reads reader t rest r small m np =
-    factors_read reader t.coefficient (monomial_said reader.ring reader.names t.exponents) rest small ∙ monomial_reads reader t.coefficient t.exponents rest r m np
+    factors_read reader t.coefficient (monomial_said reader.ring reader.names t.exponents) rest small
+    ∙ monomial_reads reader t.coefficient t.exponents rest r m np
 
 -- A term begins with a name or a number.
 
@@ -89,7 +95,8 @@ powers_start (word ∷ names) (exponent ∷ exponents) = step (eqb exponent 0) (
     first true = tt
     first false = tt
 
-    step : (b : Bool) → AllByRecursion Starts (powers_said names exponents) → AllByRecursion Starts (cond b (powers_said names exponents) (power_said word exponent ∷ powers_said names exponents))
+    step : (b : Bool) → AllByRecursion Starts (powers_said names exponents)
+        → AllByRecursion Starts (cond b (powers_said names exponents) (power_said word exponent ∷ powers_said names exponents))
     step true ih = ih
     step false ih = (first (eqb exponent 1), ih)
 
@@ -105,4 +112,5 @@ pub term_starts : (ring : Ring) (names : List (List ℕ)) (t : Term) (rest : Lis
 term_starts ring names t rest =
     let v : ℕ = ring.variables in
     factors_start t.coefficient (monomial_said ring names t.exponents) rest
-    (all_append Starts (powers_said (drop v names) (drop v t.exponents)) (powers_said (take v names) (take v t.exponents)) (powers_start (drop v names) (drop v t.exponents)) (powers_start (take v names) (take v t.exponents)))
+    (all_append Starts (powers_said (drop v names) (drop v t.exponents)) (powers_said (take v names) (take v t.exponents))
+    (powers_start (drop v names) (drop v t.exponents)) (powers_start (take v names) (take v t.exponents)))

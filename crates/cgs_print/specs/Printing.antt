@@ -1,8 +1,9 @@
 -- The printed text of polynomials, problems and faults.
-use Rattle.std.specs.Prelude.{ℕ, ◌≡◌, ◌==◌, ◌-◌, Bool, true, false, List, [], ◌∷◌, ◌++◌, length, take, drop, count_by, if◌then◌else◌, codes, decimal, Option, Some, None, Result, Ok, Err}
+use Rattle.std.specs.Prelude.{ℕ, ◌≡◌, ◌==◌, ◌-◌, Bool, true, false, List, [], ◌∷◌, ◌++◌, length, take, drop, count_by, if◌then◌else◌, codes, decimal, Option}
+use Rattle.std.specs.Prelude.{Some, None, Result, Ok, Err}
 use Rattle.std.specs.List.{flat_map, join_by}
 use Rattle.cgs_order.specs.declared.kind.Kind.{Kind}
-use Rattle.cgs_order.specs.declared.kind.Kind.TheVariants.{Lex, GrLex, GrevLex}
+use Rattle.cgs_order.specs.Words as order
 use Rattle.cgs_poly.specs.declared.ring.Ring.{Ring}
 use Rattle.cgs_poly.specs.Polynomial.{Term}
 use Rattle.cgs_entry.specs.declared.conditions.Conditions.{Conditions}
@@ -14,8 +15,7 @@ use Rattle.cgs_entry.specs.declared.entry.EntryKind.TheVariants.{Solved, Refused
 use Rattle.cgs_entry.specs.Entries.{is_refused}
 use Rattle.cgs_problem.specs.declared.problem.Problem.{Problem}
 use Rattle.cgs_problem.specs.declared.fault.TextFault.{TextFault}
-use Rattle.cgs_problem.specs.declared.fault.TextKind.{TextKind}
-use Rattle.cgs_problem.specs.declared.fault.TextKind.TheVariants as fault
+use Rattle.cgs_problem.specs.Faults as faults
 
 -- a power of a name, with no exponent where it is 1
 abbrev pub power_text : List ℕ → ℕ → List ℕ
@@ -25,7 +25,8 @@ power_text name exponent = if exponent == 1 then name else name ++ codes "^" ++ 
 abbrev pub powers_text : List (List ℕ) → List ℕ → List (List ℕ)
 powers_text [] exponents = []
 powers_text (name ∷ names) [] = []
-powers_text (name ∷ names) (exponent ∷ exponents) = if exponent == 0 then powers_text names exponents else power_text name exponent ∷ powers_text names exponents
+powers_text (name ∷ names) (exponent ∷ exponents) =
+    if exponent == 0 then powers_text names exponents else power_text name exponent ∷ powers_text names exponents
 
 -- the powers of a monomial: the parameters' before the variables'
 abbrev pub monomial_text : Ring → List (List ℕ) → List ℕ → List (List ℕ)
@@ -54,15 +55,9 @@ field_line modulus = codes "field " ++ decimal modulus ++ codes "\n"
 abbrev pub names_line : List ℕ → List (List ℕ) → List ℕ
 names_line keyword names = keyword ++ flat_map (λ name. codes " " ++ name) names ++ codes "\n"
 
--- the word of a kind of term order
-abbrev pub kind_text : Kind → List ℕ
-kind_text Lex = codes "lex"
-kind_text GrLex = codes "grlex"
-kind_text GrevLex = codes "grevlex"
-
 -- the line of the term order
 abbrev pub order_line : Kind → List ℕ
-order_line kind = codes "order " ++ kind_text kind ++ codes "\n"
+order_line kind = codes "order " ++ order.word_of kind ++ codes "\n"
 
 -- the line of a keyword and a polynomial
 abbrev pub polynomial_line : List ℕ → Ring → List (List ℕ) → List Term → List ℕ
@@ -135,7 +130,8 @@ head_line entry =
 
 -- the lines of what has to vanish, and of what must not
 abbrev pub conditions_text : Ring → List (List ℕ) → Conditions → List ℕ
-conditions_text ring names conditions = polynomial_lines (codes "zero") ring names conditions.zero ++ polynomial_lines (codes "nonzero") ring names conditions.nonzero
+conditions_text ring names conditions = polynomial_lines (codes "zero") ring names conditions.zero
+    ++ polynomial_lines (codes "nonzero") ring names conditions.nonzero
 
 -- the line that tells that the conditions were not tested to the end
 abbrev pub untested_line : Bool → List ℕ
@@ -160,27 +156,9 @@ count_line entries =
 abbrev pub list_text : Problem → List Entry → List ℕ
 list_text problem entries = flat_map (entry_text problem.ring problem.names) entries ++ count_line entries
 
--- the word of a kind of fault
-abbrev pub fault_word : TextKind → List ℕ
-fault_word fault.After = codes "after"
-fault_word fault.Byte = codes "byte"
-fault_word fault.Literal = codes "literal"
-fault_word fault.Name = codes "name"
-fault_word fault.Place = codes "place"
-fault_word fault.Syntax = codes "syntax"
-fault_word fault.Field = codes "field"
-fault_word fault.Count = codes "count"
-fault_word fault.Order = codes "order"
-fault_word fault.Thesis = codes "thesis"
-fault_word fault.Unknown = codes "unknown"
-fault_word fault.Variable = codes "variable"
-fault_word fault.Exponent = codes "exponent"
-fault_word fault.Degree = codes "degree"
-fault_word fault.End = codes "end"
-
 -- the line that tells a fault
 abbrev pub fault_text : TextFault → List ℕ
-fault_text found = codes "fault line " ++ decimal found.line ++ codes " " ++ fault_word found.kind ++ codes "\n"
+fault_text found = codes "fault line " ++ decimal found.line ++ codes " " ++ faults.word_of found.kind ++ codes "\n"
 
 -- new is old with a front of the text
 abbrev pub AppendsFront : List ℕ → List ℕ → List ℕ → Type 0

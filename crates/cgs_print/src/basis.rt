@@ -1,8 +1,7 @@
 //! The printed lines of a basis, or why there is none.
 
 ghost use Rattle.std.specs.Prelude.{◌≡◌};
-ghost use Rattle.std.specs.List.{AllByRecursion};
-ghost use Rattle.cgs_poly.specs.Polynomial.{IsPoly};
+ghost use Rattle.cgs_poly.specs.Polynomial.{ArePolys};
 ghost use Rattle.cgs_problem.specs.Problems.{IsProblem};
 ghost use Rattle.cgs_print.specs.Printing.{basis_text, members_line, refusal_text, cause_word, Prints};
 
@@ -18,7 +17,7 @@ use std::alloc::AllocError;
 /// the text is appended.
 pub fn basis_text(problem: &Problem, basis: &PolyList, out: &mut Text) -> Result<(), AllocError>
     requires problem { IsProblem problem.now }
-    requires basis { AllByRecursion (IsPoly problem.now.ring) basis.now }
+    requires basis { ArePolys problem.now.ring basis.now }
     ensures { Prints result out.old out.new (basis_text problem.now basis.now) }
 {
     polynomial_lines(

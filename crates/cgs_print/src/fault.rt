@@ -1,10 +1,9 @@
 //! The line of a fault.
 
-ghost use Rattle.std.specs.Prelude.{◌≡◌};
-ghost use Rattle.cgs_print.specs.Printing.{fault_text, fault_word, Prints};
+ghost use Rattle.cgs_print.specs.Printing.{fault_text, Prints};
 
 use crate::push::push_all;
-use cgs_problem::{Text, TextFault, TextKind};
+use cgs_problem::{Text, TextFault};
 use itoa::Buffer;
 use std::alloc::AllocError;
 
@@ -12,7 +11,7 @@ use std::alloc::AllocError;
 pub fn fault_text(fault: TextFault, out: &mut Text) -> Result<(), AllocError>
     ensures { Prints result out.old out.new (fault_text fault) }
 {
-    let word = fault_word(fault.kind);
+    let word = fault.kind.word();
     let mut buffer = Buffer::new();
     push_all(
         out,
@@ -24,27 +23,4 @@ pub fn fault_text(fault: TextFault, out: &mut Text) -> Result<(), AllocError>
             b"\n",
         ],
     )
-}
-
-/// The word of a kind.
-fn fault_word(kind: TextKind) -> &'static [u8]
-    ensures { result.now ≡ fault_word kind }
-{
-    match kind {
-        TextKind::After => b"after",
-        TextKind::Byte => b"byte",
-        TextKind::Literal => b"literal",
-        TextKind::Name => b"name",
-        TextKind::Place => b"place",
-        TextKind::Syntax => b"syntax",
-        TextKind::Field => b"field",
-        TextKind::Count => b"count",
-        TextKind::Order => b"order",
-        TextKind::Thesis => b"thesis",
-        TextKind::Unknown => b"unknown",
-        TextKind::Variable => b"variable",
-        TextKind::Exponent => b"exponent",
-        TextKind::Degree => b"degree",
-        TextKind::End => b"end",
-    }
 }

@@ -1,9 +1,8 @@
 //! The printed lines of a problem.
 
 ghost use Rattle.std.specs.Prelude.{◌≡◌, length, flat_map, IfSome};
-ghost use Rattle.std.specs.List.{AllByRecursion};
-ghost use Rattle.cgs_poly.specs.Polynomial.{IsRing, IsPoly, places};
-ghost use Rattle.cgs_print.specs.Printing.{field_line, names_line, order_line, kind_text, polynomial_line, polynomial_lines, thesis_line, point_line, Prints};
+ghost use Rattle.cgs_poly.specs.Polynomial.{IsRing, IsPoly, places, ArePolys};
+ghost use Rattle.cgs_print.specs.Printing.{field_line, names_line, order_line, polynomial_line, polynomial_lines, thesis_line, point_line, Prints};
 
 use crate::polynomial::polynomial_text;
 use crate::push::push_all;
@@ -41,18 +40,7 @@ pub(crate) fn names_line(keyword: &[u8], names: &[Text], out: &mut Text) -> Resu
 pub(crate) fn order_line(kind: Kind, out: &mut Text) -> Result<(), AllocError>
     ensures { Prints result out.old out.new (order_line kind) }
 {
-    push_all(out, &[b"order ", kind_text(kind), b"\n"])
-}
-
-/// The word of a kind of term order.
-fn kind_text(kind: Kind) -> &'static [u8]
-    ensures { result.now ≡ kind_text kind }
-{
-    match kind {
-        Kind::Lex => b"lex",
-        Kind::GrLex => b"grlex",
-        Kind::GrevLex => b"grevlex",
-    }
+    push_all(out, &[b"order ", kind.word(), b"\n"])
 }
 
 /// The line of a keyword and a polynomial.
@@ -83,7 +71,7 @@ pub(crate) fn polynomial_lines(
 ) -> Result<(), AllocError>
     requires ring { IsRing ring.now }
     requires named { length names.now ≡ places ring.now }
-    requires polys { AllByRecursion (IsPoly ring.now) list.now }
+    requires polys { ArePolys ring.now list.now }
     ensures { Prints result out.old out.new (polynomial_lines keyword.now ring.now names.now list.now) }
 {
     for f in list {

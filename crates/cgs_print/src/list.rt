@@ -2,7 +2,7 @@
 
 ghost use Rattle.std.specs.Prelude.{◌≡◌, ◌≤◌, ◌++◌, length, flat_map, count_by, codes, decimal};
 ghost use Rattle.std.specs.List.{AllByRecursion};
-ghost use Rattle.cgs_poly.specs.Polynomial.{IsRing, IsPoly, places};
+ghost use Rattle.cgs_poly.specs.Polynomial.{IsRing, places, ArePolys};
 ghost use Rattle.cgs_poly.specs.Parameters.{IsCondition};
 ghost use Rattle.cgs_entry.specs.Entries.{IsEntry, IsFound, is_refused};
 ghost use Rattle.cgs_problem.specs.Problems.{IsProblem};
@@ -164,7 +164,7 @@ fn solved_text(
 ) -> Result<(), AllocError>
     requires ring { IsRing ring.now }
     requires named { length names.now ≡ places ring.now }
-    requires basis { AllByRecursion (IsPoly ring.now) basis.now }
+    requires basis { ArePolys ring.now basis.now }
     ensures { Prints result out.old out.new (untested_line tested ++ polynomial_lines (codes "basis") ring.now names.now basis.now) }
 {
     untested_line(tested, out)?;

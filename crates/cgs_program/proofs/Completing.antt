@@ -30,15 +30,18 @@ taken_within (Some xs) (Some ys) bytes read e p =
     omega (arith, ap length p, ap length same, length-append read ys)
 
 -- What was taken of bytes that spell a problem is answered as that problem.
-settled : (plan : Plan) (a b : Seen) (bytes : List ℕ) (problem : Problem) (text : List ℕ) (end : Status) (got : Got) → own_problem plan ≡ None → a.bytes ≡ Some bytes → length bytes ≤ limit → problem_spelled bytes ≡ Ok problem
+settled : (plan : Plan) (a b : Seen) (bytes : List ℕ) (problem : Problem) (text : List ℕ) (end : Status) (got : Got) → own_problem plan ≡ None
+    → a.bytes ≡ Some bytes → length bytes ≤ limit → problem_spelled bytes ≡ Ok problem
     → Took got a b → IsDueTo plan got text end → IsAnswer plan problem text end
 settled plan a b bytes problem text end nothing_read r told fits spelled taken due = absurd (let no : None ≡ Some due.0 = sym r ∙ due.1 in cc)
 settled plan a b bytes problem text end (whole read) r told fits spelled taken due =
     let e : problem_spelled read ≡ Ok problem = ap problem_spelled (all_taken a.bytes b.bytes bytes read told taken.1 taken.2) ∙ spelled in
     subst (λ (x : Result Problem TextFault). IsReply plan x text end) e due.1
-settled plan a b bytes problem text end too_long r told fits spelled taken due = absurd (let le = taken_within a.bytes b.bytes bytes taken.0 told taken.2 in omega arith)
+settled plan a b bytes problem text end too_long r told fits spelled taken due =
+    absurd (let le = taken_within a.bytes b.bytes bytes taken.0 told taken.2 in omega arith)
 
-wrote : (p : Plan) (words : List (List ℕ)) (a b c d : Seen) (bytes : List ℕ) (problem : Problem) (end : Status) → Accepts words a b c d p bytes problem → Writes (plan_of words) a b c d end
+wrote : (p : Plan) (words : List (List ℕ)) (a b c d : Seen) (bytes : List ℕ) (problem : Problem) (end : Status) → Accepts words a b c d p bytes problem
+    → Writes (plan_of words) a b c d end
     → (end ≡ status.Memory) ⊎ ((text : List ℕ) × IsAnswer p problem text end × Appends c.bytes d.bytes text)
 wrote p words a b c d bytes problem end acc w =
     let due : IsDueTo p w.settles.got w.text end = subst (λ (q : Result Plan WordFault). IsDueFor q w.settles.got w.text end) acc.planned w.settles.due in

@@ -1,40 +1,33 @@
 -- What the text due of `basis` and of `solve` is, by the laws of basis runs and of nodes.
-use Rattle.std.proofs.Common.{◌≡◌, ◌⊎◌, ℕ, Bool, true, false, List, [], ◌++◌, length, get_or, ◌<◌, Option, Some, None, Result, Ok, Err, refl, sym, ap, ◌∙◌, subst, inl, inr}
-use Rattle.std.specs.List.{AllByRecursion, list_any}
+use Rattle.std.proofs.Common.{◌≡◌, ◌⊎◌, ℕ, false, List, [], length, get_or, ◌<◌, Some, None, Result, Ok, Err, refl, sym, ◌∙◌, subst, inl, inr}
 use Rattle.std.specs.Io.KnownBytes.{Appends}
 use Rattle.cgs_io.specs.Seen.{Seen}
-use Rattle.cgs_poly.specs.declared.ring.Ring.{Ring}
 use Rattle.cgs_poly.specs.Polynomial.{Term, IsPoly, IsCanonical}
 use Rattle.cgs_poly.specs.Parameters.{IsCondition}
 use Rattle.cgs_divide.specs.AutoreductionRun.{ListRun, done, out_of_budget, out_of_degree}
 use Rattle.cgs_algebra.specs.Groebner.{IsReduced, IsAscending}
 use Rattle.cgs_basis.specs.BasisRun.{basis_run}
 use Rattle.cgs_basis.proofs.BasisLemmas.{basis_reduced}
-use Rattle.cgs_radical.proofs.TestLemmas.{conditions_parametric}
-use Rattle.cgs_entry.specs.Entries.{IsComprehensive, is_refused}
 use Rattle.cgs_problem.specs.declared.problem.Problem.{Problem}
 use Rattle.cgs_problem.specs.declared.fault.TextFault.{TextFault}
 use Rattle.cgs_problem.specs.Problems.{IsProblem}
 use Rattle.cgs_problem.specs.Reading.{problem_spelled}
-use Rattle.cgs_print.specs.Printing.{basis_text, list_text}
+use Rattle.cgs_print.specs.Printing.{basis_text}
 use Rattle.cgs_print.proofs.MonomialLemmas.{all_append}
 use Rattle.cgs_print.proofs.ValidLemmas.{spelled_problem}
-use Rattle.cgs_split.specs.declared.kind.Limits.{Limits}
-use Rattle.cgs_split.specs.NodeRun.{node_of, height_of}
-use Rattle.cgs_split.specs.Heights.{heights_fall}
-use Rattle.cgs_split.proofs.IdealLemmas.{each_map, each_at}
-use Rattle.cgs_split.proofs.NodeRunLemmas.{node_is_node}
-use Rattle.cgs_split.proofs.PreorderLemmas.{nodes_comprehensive}
-use Rattle.cgs_words.specs.declared.plan.Command.{Command}
+use Rattle.cgs_list.proofs.ListLemmas.{all_weaker}
+use Rattle.cgs_split.proofs.IdealLemmas.{each_at}
+use Rattle.cgs_system.proofs.Listing.{listed_comprehensive}
 use Rattle.cgs_words.specs.declared.plan.Command.TheVariants.{Basis, Solve}
 use Rattle.cgs_words.specs.declared.plan.Plan.{Plan}
 use Rattle.cgs_words.specs.declared.plan.WordFault.{WordFault}
 use Rattle.cgs_words.specs.Words.{plan_of}
 use Rattle.cgs_program.specs.declared.status.Status.{Status}
 use Rattle.cgs_program.specs.declared.status.Status.TheVariants as status
-use Rattle.cgs_program.specs.Due.{Got, nothing_read, whole, too_long, own_problem, answer_of, basis_answer, list_answer, status_of, generators_of, limits_of, entries_within, IsThe, IsAnswer, IsReply, IsDueTo, IsDueFor}
+use Rattle.cgs_program.specs.Due.{Got, nothing_read, whole, too_long, answer_of, basis_answer, list_answer, generators_of, limits_of, entries_within}
+use Rattle.cgs_program.specs.Due.{asks_history, IsThe, IsWhole, IsAnswer, IsReply, IsDueTo, IsDueFor}
 use Rattle.cgs_program.specs.Run.{Took, Writes, Ends}
-use Rattle.cgs_program.specs.Promises.{Asks, HasRead, WritesBasis, WritesSystem, KeepsBasis, KeepsSystem}
+use Rattle.cgs_program.specs.Promises.{HasRead, KeepsBasis, KeepsSystem}
 
 -- a text that is the answer for what was read
 record IsAnswered (plan : Plan) (a b c d : Seen) (end : Status) : Type 0 where
@@ -64,26 +57,37 @@ module _ (plan : Plan) (a b c d : Seen) (end : Status) (answers : (end ≡ statu
 answered : (words : List (List ℕ)) (plan : Plan) (a b c d : Seen) (end : Status) → plan_of words ≡ Ok plan → (end ≡ status.Done) ⊎ (end ≡ status.Partial)
     → Ends (plan_of words) a b c d end → IsAnswered plan a b c d end
 answered words plan a b c d end planned (inl e) ends =
-    let w : Writes (plan_of words) a b c d end = subst (λ (x : Status). Ends (plan_of words) a b c d x → Writes (plan_of words) a b c d x) (sym e) (λ h. h) ends in
+    let w : Writes (plan_of words) a b c d end =
+    subst (λ (x : Status). Ends (plan_of words) a b c d x → Writes (plan_of words) a b c d x) (sym e) (λ h. h) ends in
     let due : IsDueTo plan w.settles.got w.text end = subst (λ (q : Result Plan WordFault). IsDueFor q w.settles.got w.text end) planned w.settles.due in
     replied plan a b c d end (λ t. absurd (let no : status.Done ≡ status.Text = sym e ∙ t in cc)) w.settles.got w.text w.settles.taken due w.written
 answered words plan a b c d end planned (inr e) ends =
-    let w : Writes (plan_of words) a b c d end = subst (λ (x : Status). Ends (plan_of words) a b c d x → Writes (plan_of words) a b c d x) (sym e) (λ h. h) ends in
+    let w : Writes (plan_of words) a b c d end =
+    subst (λ (x : Status). Ends (plan_of words) a b c d x → Writes (plan_of words) a b c d x) (sym e) (λ h. h) ends in
     let due : IsDueTo plan w.settles.got w.text end = subst (λ (q : Result Plan WordFault). IsDueFor q w.settles.got w.text end) planned w.settles.due in
     replied plan a b c d end (λ t. absurd (let no : status.Partial ≡ status.Text = sym e ∙ t in cc)) w.settles.got w.text w.settles.taken due w.written
 
 -- the answer of a plan with a command
-of_basis : (plan : Plan) (problem : Problem) → plan.command ≡ Basis → answer_of plan problem ≡ basis_answer problem (basis_run problem.ring (generators_of problem) plan.budget)
+of_basis : (plan : Plan) (problem : Problem) → plan.command ≡ Basis
+    → answer_of plan problem ≡ basis_answer problem (basis_run problem.ring (generators_of problem) plan.budget)
 of_basis plan problem e = rw e refl
 
 of_solve : (plan : Plan) (problem : Problem) → plan.command ≡ Solve → answer_of plan problem ≡ list_answer problem (entries_within (limits_of plan) problem)
 of_solve plan problem e = rw e refl
 
+-- whether a plan with a command asks for a history
+asks_of_basis : (plan : Plan) → plan.command ≡ Basis → asks_history plan ≡ false
+asks_of_basis plan e = rw e refl
+
+asks_of_solve : (plan : Plan) → plan.command ≡ Solve → asks_history plan ≡ plan.history
+asks_of_solve plan e = rw e refl
+
 -- the polynomials and the conditions that have to vanish are canonical
-generators_at : (problem : Problem) → IsProblem problem → (i : ℕ) → i < length (generators_of problem) → IsCanonical problem.ring (get_or (generators_of problem) i [])
+generators_at : (problem : Problem) → IsProblem problem → (i : ℕ) → i < length (generators_of problem)
+    → IsCanonical problem.ring (get_or (generators_of problem) i [])
 generators_at problem p i h =
-    let polys = each_map (IsPoly problem.ring) (IsCanonical problem.ring) problem.polys p.polys (λ f q. q.canonical) in
-    let vanishing = each_map (IsCondition problem.ring) (IsCanonical problem.ring) problem.zero p.zero (λ f q. q.poly.canonical) in
+    let polys = all_weaker (IsPoly problem.ring) (IsCanonical problem.ring) problem.polys p.polys (λ f q. q.canonical) in
+    let vanishing = all_weaker (IsCondition problem.ring) (IsCanonical problem.ring) problem.zero p.zero (λ f q. q.poly.canonical) in
     each_at (IsCanonical problem.ring) (generators_of problem) (all_append (IsCanonical problem.ring) problem.polys problem.zero polys vanishing) i h
 
 -- what a basis run that ends with status 0 has found
@@ -93,7 +97,8 @@ record IsFoundBasis (problem : Problem) (text : List ℕ) : Type 0 where
   ascending : IsAscending problem.ring basis
   printed : text ≡ basis_text problem basis
 
-basis_found : (problem : Problem) (units : ℕ) (text : List ℕ) (end : Status) (run : ListRun) → basis_run problem.ring (generators_of problem) units ≡ run → IsProblem problem
+basis_found : (problem : Problem) (units : ℕ) (text : List ℕ) (end : Status) (run : ListRun) → basis_run problem.ring (generators_of problem) units ≡ run
+    → IsProblem problem
     → end ≡ status.Done → IsThe (basis_answer problem run) text end → IsFoundBasis problem text
 basis_found problem units text end (done basis left) e p z a =
     let found = basis_reduced problem.ring (generators_of problem) basis units left p.ring (generators_at problem p) e in
@@ -106,7 +111,8 @@ keeps_basis words a b c d end h asks z =
     let w = answered words asks.plan a b c d end asks.planned (inl z) h in
     let valid = spelled_problem w.read.bytes w.problem w.read.spelled in
     let run = basis_run w.problem.ring (generators_of w.problem) asks.plan.budget in
-    let wanted = subst (λ x. IsThe x w.text end) (of_basis asks.plan w.problem asks.asked) w.answered in
+    let alone = subst (λ asked. IsWhole asked asks.plan w.problem (answer_of asks.plan w.problem) w.text end) (asks_of_basis asks.plan asks.asked) w.answered in
+    let wanted = subst (λ x. IsThe x w.text end) (of_basis asks.plan w.problem asks.asked) alone in
     let found = basis_found w.problem asks.plan.budget w.text end run refl valid z wanted in
     record {
       problem = w.problem;
@@ -117,24 +123,20 @@ keeps_basis words a b c d end h asks z =
       written = subst (λ text. Appends c.bytes d.bytes text) found.printed w.written;
     }
 
--- the entries of a valid problem's tree
-entries_comprehensive : (problem : Problem) (limits : Limits) → IsProblem problem → IsComprehensive problem.ring problem.zero problem.nonzero problem.polys (entries_within limits problem)
-entries_comprehensive problem limits p =
-    let ring = problem.ring in
-    nodes_comprehensive problem.ring p.ring node_of height_of heights_fall (λ branch path ok. node_is_node problem.ring branch path p.ring ok) limits problem.zero problem.nonzero problem.polys
-    (conditions_parametric problem.ring problem.zero p.zero) (conditions_parametric problem.ring problem.nonzero p.nonzero)
-    (each_map (IsPoly problem.ring) (IsCanonical problem.ring) problem.polys p.polys (λ f q. q.canonical))
-
 pub keeps_system : (words : List (List ℕ)) (a b c d : Seen) (end : Status) → Ends (plan_of words) a b c d end → KeepsSystem words a b c d end
 keeps_system words a b c d end h asks z =
     let w = answered words asks.plan a b c d end asks.planned z h in
     let limits = limits_of asks.plan in
-    let wanted = subst (λ x. IsThe x w.text end) (of_solve asks.plan w.problem asks.asked) w.answered in
+    let asked = subst (λ x. IsWhole x asks.plan w.problem (answer_of asks.plan w.problem) w.text end) (asks_of_solve asks.plan asks.asked) w.answered in
+    let wanted = subst (λ x. IsWhole asks.plan.history asks.plan w.problem x w.text end) (of_solve asks.plan w.problem asks.asked) asked in
     record {
       problem = w.problem;
       read = w.read;
       entries = entries_within limits w.problem;
-      comprehensive = entries_comprehensive w.problem limits (spelled_problem w.read.bytes w.problem w.read.spelled);
+      of_tree = refl;
+      comprehensive = listed_comprehensive w.problem limits (entries_within limits w.problem) (spelled_problem w.read.bytes w.problem w.read.spelled) refl;
       status = wanted.1;
-      written = subst (λ text. Appends c.bytes d.bytes text) wanted.0 w.written;
+      text = w.text;
+      followed = wanted.0;
+      written = w.written;
     }

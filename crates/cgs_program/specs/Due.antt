@@ -7,12 +7,18 @@ use Rattle.cgs_basis.specs.BasisRun.{basis_run}
 use Rattle.cgs_entry.specs.declared.entry.Cause.TheVariants.{Budget, Degree}
 use Rattle.cgs_entry.specs.declared.entry.Entry.{Entry}
 use Rattle.cgs_entry.specs.Entries.{is_refused}
+use Rattle.cgs_board.specs.declared.event.Event.{Event}
+use Rattle.cgs_board.specs.History.{IsComplete}
 use Rattle.cgs_split.specs.declared.kind.Limits.{Limits}
+use Rattle.cgs_split.specs.Cases.{Case}
 use Rattle.cgs_split.specs.Laws.{entry_list}
+use Rattle.cgs_split.specs.NodeRun.{node_of}
+use Rattle.cgs_split.specs.Trees.{root_case}
 use Rattle.cgs_problem.specs.declared.problem.Problem.{Problem}
 use Rattle.cgs_problem.specs.declared.fault.TextFault.{TextFault}
 use Rattle.cgs_problem.specs.Reading.{problem_spelled}
 use Rattle.cgs_print.specs.Printing.{problem_text, basis_text, refusal_text, list_text, fault_text}
+use Rattle.cgs_print.specs.History.{history_text}
 use Rattle.cgs_words.specs.declared.plan.Command.TheVariants.{Check, Basis, Solve}
 use Rattle.cgs_words.specs.declared.plan.Plan.{Plan}
 use Rattle.cgs_words.specs.declared.plan.WordFault.{WordFault}
@@ -81,7 +87,11 @@ limits_of plan = record { budget = plan.budget; depth = plan.depth }
 abbrev pub entries_within : Limits → Problem → List Entry
 entries_within limits problem = entry_list problem.ring limits problem.zero problem.nonzero problem.polys
 
--- The answer for a problem. A further command is a further case.
+-- the root of that tree
+abbrev pub root_within : Limits → Problem → Case
+root_within limits problem = root_case problem.ring limits problem.zero problem.nonzero problem.polys
+
+-- The answer for a problem, without a history. A further command is a further case.
 abbrev pub answer_of : Plan → Problem → Answer
 answer_of plan problem =
     elim plan.command [
@@ -94,8 +104,26 @@ answer_of plan problem =
 abbrev pub IsThe : Answer → List ℕ → Status → Type 0
 IsThe wanted text end = (text ≡ wanted.text) × (end ≡ wanted.end)
 
+-- the plan asks for the history of the tree
+abbrev pub asks_history : Plan → Bool
+asks_history plan = elim plan.command [ Check ↦ false | Basis ↦ false | Solve ↦ plan.history ]
+
+-- After the first text comes, where it is asked, that of a history in which so many workers claim and give back each branch of a tree.
+abbrev pub IsFollowed : Bool → Case → ℕ → List ℕ → List ℕ → Type 0
+IsFollowed false root workers first text = text ≡ first
+IsFollowed true root workers first text = (h : List Event) × IsComplete node_of root workers h × (text ≡ first ++ history_text h)
+
+-- The text and the status of an answer, with a history of the problem's tree after the text where it is asked.
+abbrev pub IsWhole : Bool → Plan → Problem → Answer → List ℕ → Status → Type 0
+IsWhole asked plan problem wanted text end = IsFollowed asked (root_within (limits_of plan) problem) plan.workers wanted.text text × (end ≡ wanted.end)
+
+-- what `solve` answers: the list of the problem's tree, with a history of the tree after it where it is asked
+abbrev pub IsListed : Plan → Problem → List ℕ → Status → Type 0
+IsListed plan problem text end = IsWhole plan.history plan problem (list_answer problem (entries_within (limits_of plan) problem)) text end
+
+-- The status and the text of the list are a function of the plan and the problem; the history depends on the workers.
 abbrev pub IsAnswer : Plan → Problem → List ℕ → Status → Type 0
-IsAnswer plan problem text end = IsThe (answer_of plan problem) text end
+IsAnswer plan problem text end = IsWhole (asks_history plan) plan problem (answer_of plan problem) text end
 
 -- the answer for what bytes spell
 abbrev pub IsReply : Plan → Result Problem TextFault → List ℕ → Status → Type 0

@@ -1,4 +1,5 @@
--- What the bytes written by `basis` and by `solve` are, in the words of the field: neither a run nor a unit nor a tree stands here.
+-- What the bytes written by `basis` and by `solve` are, in the words of the field: neither a run nor a unit stands here, and a tree only
+-- to say that its list does not depend on the workers.
 use Rattle.std.specs.Prelude.{◌≡◌, ◌⊎◌, ℕ, List, Ok}
 use Rattle.std.specs.List.{list_any}
 use Rattle.std.specs.Io.KnownBytes.{Appends}
@@ -16,7 +17,7 @@ use Rattle.cgs_words.specs.declared.plan.Plan.{Plan}
 use Rattle.cgs_words.specs.Words.{plan_of}
 use Rattle.cgs_program.specs.declared.status.Status.{Status}
 use Rattle.cgs_program.specs.declared.status.Status.TheVariants as status
-use Rattle.cgs_program.specs.Due.{whole, generators_of, status_of}
+use Rattle.cgs_program.specs.Due.{whole, generators_of, status_of, limits_of, entries_within, root_within, IsFollowed}
 use Rattle.cgs_program.specs.Run.{Took}
 
 -- the words ask for a command
@@ -40,14 +41,18 @@ pub record WritesBasis (source source_now sink sink_now : Seen) : Type 0 where
   pub ascending : IsAscending problem.ring basis
   pub written : Appends sink.bytes sink_now.bytes (basis_text problem basis)
 
--- The text of a comprehensive list of entries was written, and the status tells whether one of them is refused.
-pub record WritesSystem (source source_now sink sink_now : Seen) (end : Status) : Type 0 where
+-- The text of a comprehensive list of entries was written: that of the problem's tree, for every number of workers and every order in which
+-- they work. Where it is asked, a history of that tree by the workers follows it. The status tells whether an entry is refused.
+pub record WritesSystem (plan : Plan) (source source_now sink sink_now : Seen) (end : Status) : Type 0 where
   pub problem : Problem
   pub read : HasRead source source_now problem
   pub entries : List Entry
+  pub of_tree : entries ≡ entries_within (limits_of plan) problem
   pub comprehensive : IsComprehensive problem.ring problem.zero problem.nonzero problem.polys entries
   pub status : end ≡ status_of (list_any is_refused entries)
-  pub written : Appends sink.bytes sink_now.bytes (list_text problem entries)
+  pub text : List ℕ
+  pub followed : IsFollowed plan.history (root_within (limits_of plan) problem) plan.workers (list_text problem entries) text
+  pub written : Appends sink.bytes sink_now.bytes text
 
 -- what `basis` promises with status 0
 abbrev pub KeepsBasis : List (List ℕ) → Seen → Seen → Seen → Seen → Status → Type 0
@@ -56,4 +61,4 @@ KeepsBasis words source source_now sink sink_now end = Asks Basis words → end 
 -- what `solve` promises with the statuses 0 and 3
 abbrev pub KeepsSystem : List (List ℕ) → Seen → Seen → Seen → Seen → Status → Type 0
 KeepsSystem words source source_now sink sink_now end =
-    Asks Solve words → (end ≡ status.Done) ⊎ (end ≡ status.Partial) → WritesSystem source source_now sink sink_now end
+    (asks : Asks Solve words) → (end ≡ status.Done) ⊎ (end ≡ status.Partial) → WritesSystem asks.plan source source_now sink sink_now end

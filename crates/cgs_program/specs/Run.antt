@@ -5,6 +5,7 @@ use Rattle.cgs_io.specs.Causes.{Rose}
 use Rattle.cgs_io.specs.Seen.{Seen, IsCalm}
 use Rattle.cgs_io.specs.Streams.{AppendsPrefix}
 use Rattle.cgs_problem.specs.declared.problem.Problem.{Problem}
+use Rattle.cgs_problem.specs.Problems.{IsProblem}
 use Rattle.cgs_problem.specs.Reading.{problem_spelled}
 use Rattle.cgs_words.specs.declared.plan.Plan.{Plan}
 use Rattle.cgs_words.specs.declared.plan.WordFault.{WordFault}
@@ -13,8 +14,10 @@ use Rattle.cgs_program.specs.declared.status.Status.TheVariants as status
 use Rattle.cgs_program.specs.declared.reply.Reply.{Reply}
 use Rattle.cgs_program.specs.declared.reply.Halt.{Halt}
 use Rattle.cgs_program.specs.declared.reply.Halt.TheVariants as halt
+use Rattle.cgs_program.specs.declared.reply.Task.{Task}
+use Rattle.cgs_program.specs.declared.reply.Task.TheVariants as task
 use Rattle.cgs_words.specs.Words.{plan_of}
-use Rattle.cgs_program.specs.Due.{Got, nothing_read, whole, too_long, limit, own_problem, IsDueFor, IsAnswer}
+use Rattle.cgs_program.specs.Due.{Got, nothing_read, whole, too_long, limit, own_problem, IsListed, IsDueFor, IsAnswer}
 
 -- what was taken from the source
 abbrev pub Took : Got → Seen → Seen → Type 0
@@ -83,6 +86,15 @@ Ends plan source source_now sink sink_now end = Writes plan source source_now si
 abbrev pub IsRun : List (List ℕ) → Seen → Seen → Seen → Seen → Status → Type 0
 IsRun words source source_now sink sink_now end = Ends (plan_of words) source source_now sink sink_now end
 
+-- What reading leaves of the source: a reply, or a problem whose list has to be the reply.
+abbrev pub ReadsTask : Plan → Seen → Seen → Result Task Halt → Type 0
+ReadsTask plan before now (Ok (task.Ready reply)) = Settles (Ok plan) before now reply.text reply.status
+ReadsTask plan before now (Ok (task.Solve problem)) =
+    IsProblem problem × TookSome before now × IsCalm before now
+    × ((text : List ℕ) (end : Status) → IsListed plan problem text end → Settles (Ok plan) before now text end)
+ReadsTask plan before now (Err halt.Source) = Reads (Ok plan) × TookSome before now × Fails before now
+ReadsTask plan before now (Err halt.Memory) = TookSome before now × IsCalm before now
+
 -- What making a reply leaves of the source.
 abbrev pub RepliesTo : Plan → Seen → Seen → Result Reply Halt → Type 0
 RepliesTo plan before now (Ok reply) = Settles (Ok plan) before now reply.text reply.status
@@ -101,6 +113,19 @@ Makes (Ok reply) P = P reply.text reply.status
 Makes (Err halt.Memory) P = Unit {0}
 Makes (Err halt.Source) P = ⊥
 
+-- A reply is ready as it should be, or is to be the list of a problem, unless memory was short.
+abbrev pub Sets : Result Task Halt → Plan → (List ℕ → Status → Type 0) → Type 0
+Sets (Ok (task.Ready reply)) plan P = P reply.text reply.status
+Sets (Ok (task.Solve problem)) plan P = IsProblem problem × ((text : List ℕ) (end : Status) → IsListed plan problem text end → P text end)
+Sets (Err halt.Memory) plan P = Unit {0}
+Sets (Err halt.Source) plan P = ⊥
+
+-- What a reply, or the want of one, leaves of the sink, and the status.
+abbrev pub Delivers : Result Reply Halt → Seen → Seen → Status → Type 0
+Delivers (Ok reply) before now end = Finishes reply.text reply.status before now end
+Delivers (Err halt.Source) before now end = (end ≡ status.Source) × (now ≡ before)
+Delivers (Err halt.Memory) before now end = (end ≡ status.Memory) × (now ≡ before)
+
 -- Words, bytes and counts with which a run has to come to its answer.
 pub record Accepts (words : List (List ℕ)) (source source_now sink sink_now : Seen) (plan : Plan) (bytes : List ℕ) (problem : Problem) : Type 0 where
   pub planned : plan_of words ≡ Ok plan
@@ -113,5 +138,6 @@ pub record Accepts (words : List (List ℕ)) (source source_now sink sink_now : 
 
 -- What is accepted is answered, unless memory is short.
 abbrev pub Completes : List (List ℕ) → Seen → Seen → Seen → Seen → Status → Type 0
-Completes words source source_now sink sink_now end = (plan : Plan) (bytes : List ℕ) (problem : Problem) → Accepts words source source_now sink sink_now plan bytes problem
+Completes words source source_now sink sink_now end =
+    (plan : Plan) (bytes : List ℕ) (problem : Problem) → Accepts words source source_now sink sink_now plan bytes problem
     → (end ≡ status.Memory) ⊎ ((text : List ℕ) × IsAnswer plan problem text end × Appends sink.bytes sink_now.bytes text)

@@ -1,7 +1,6 @@
 //! The command `basis`.
 
-ghost use Rattle.std.specs.List.{AllByRecursion};
-ghost use Rattle.cgs_poly.specs.Polynomial.{IsPoly};
+ghost use Rattle.cgs_poly.specs.Polynomial.{ArePolys};
 ghost use Rattle.cgs_basis.specs.BasisRun.{basis_run};
 ghost use Rattle.cgs_problem.specs.Problems.{IsProblem};
 ghost use Rattle.cgs_print.specs.Printing.{basis_text, refusal_text};
@@ -38,7 +37,7 @@ pub(crate) fn basis_reply(alloc: Global, budget: u64, problem: &Problem) -> Resu
 /// The reply with a basis.
 fn found(alloc: Global, problem: &Problem, basis: &PolyList) -> Result<Reply, Halt>
     requires problem { IsProblem problem.now }
-    requires basis { AllByRecursion (IsPoly problem.now.ring) basis.now }
+    requires basis { ArePolys problem.now.ring basis.now }
     ensures { Makes result (IsThe (answer (basis_text problem.now basis.now) Done)) }
 {
     let mut text = ItemList::new(alloc);

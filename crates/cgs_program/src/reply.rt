@@ -4,17 +4,15 @@ ghost use Rattle.std.specs.Prelude.{◌≡◌, ◌≤◌, length};
 ghost use Rattle.cgs_problem.specs.Problems.{IsProblem};
 ghost use Rattle.cgs_print.specs.Printing.{problem_text, fault_text};
 ghost use Rattle.cgs_program.specs.declared.status.Status.TheVariants.{Done, Text};
-ghost use Rattle.cgs_program.specs.Due.{answer as wanted, IsThe, IsAnswer, IsDueTo, limits_of, whole, too_long, limit};
-ghost use Rattle.cgs_program.specs.Run.{RepliesTo, Makes};
+ghost use Rattle.cgs_program.specs.Due.{answer as wanted, IsThe, IsAnswer, IsDueTo, whole, too_long, limit};
+ghost use Rattle.cgs_program.specs.Run.{ReadsTask, Sets, Makes};
 
 use crate::basis::basis_reply;
-use crate::solve::list_reply;
 use crate::status::Status;
 use cgs_io::{ReadFault, Reading, Source, read_all};
 use cgs_list::ItemList;
 use cgs_print::{fault_text, problem_text};
 use cgs_problem::{Problem, Text, TextFault};
-use cgs_split::Limits;
 use cgs_text::{TextRefused, read_problem};
 use cgs_words::{Command, Plan};
 use std::alloc::{AllocError, Global};
@@ -48,67 +46,72 @@ impl From<AllocError> for Halt {
     }
 }
 
-/// Reads the source, and makes the text due.
-pub(crate) fn make_reply<S: Source>(
-    alloc: Global,
-    plan: Plan,
-    source: &mut S,
-) -> Result<Reply, Halt>
-    ensures { RepliesTo plan (S.seen source.old) (S.seen source.new) result }
+/// What is to be done for the text due.
+#[derive(Drop)]
+pub(crate) enum Task {
+    /// A reply is ready.
+    Ready(Reply),
+    /// This problem has to be solved.
+    Solve(Problem),
+}
+
+/// Reads the source, and makes the text due, but for the list of a problem.
+pub(crate) fn read_task<S: Source>(alloc: Global, plan: Plan, source: &mut S) -> Result<Task, Halt>
+    ensures { ReadsTask plan (S.seen source.old) (S.seen source.new) result }
 {
     match read_all(alloc, source, LIMIT) {
-        Ok(Reading::Whole(bytes)) => reply_to(alloc, plan, &bytes),
-        Ok(Reading::TooLong) => reply_to_too_long(alloc, plan),
+        Ok(Reading::Whole(bytes)) => task_of(alloc, plan, &bytes),
+        Ok(Reading::TooLong) => task_of_too_long(alloc, plan),
         Err(ReadFault::Fault) => Err(Halt::Source),
         Err(ReadFault::OutOfMemory) => Err(Halt::Memory),
     }
 }
 
 /// The reply to an input that is too long.
-fn reply_to_too_long(alloc: Global, plan: Plan) -> Result<Reply, Halt>
-    ensures { Makes result (IsDueTo plan too_long) }
+fn task_of_too_long(alloc: Global, plan: Plan) -> Result<Task, Halt>
+    ensures { Sets result plan (IsDueTo plan too_long) }
 {
     let mut text = ItemList::new(alloc);
     text.extend_from_slice(b"fault line 0 long\n")?;
-    Ok(Reply {
+    Ok(Task::Ready(Reply {
         text,
         status: Status::Text,
-    })
+    }))
 }
 
-/// The reply to the bytes of a text.
-fn reply_to(alloc: Global, plan: Plan, bytes: &[u8]) -> Result<Reply, Halt>
+/// What the bytes of a text ask for.
+fn task_of(alloc: Global, plan: Plan, bytes: &[u8]) -> Result<Task, Halt>
     requires { length bytes.now ≤ limit }
-    ensures { Makes result (IsDueTo plan (whole bytes.now)) }
+    ensures { Sets result plan (IsDueTo plan (whole bytes.now)) }
 {
     match read_problem(alloc, bytes) {
-        Ok(problem) => answer(alloc, plan, &problem),
-        Err(TextRefused::Fault(fault)) => reply_to_fault(alloc, fault),
+        Ok(problem) => task_for(alloc, plan, problem),
+        Err(TextRefused::Fault(fault)) => task_of_fault(alloc, plan, fault),
         Err(TextRefused::OutOfMemory) => Err(Halt::Memory),
     }
 }
 
 /// The reply to a text that spells no problem.
-fn reply_to_fault(alloc: Global, fault: TextFault) -> Result<Reply, Halt>
-    ensures { Makes result (λ text end. (text ≡ fault_text fault) × (end ≡ Text)) }
+fn task_of_fault(alloc: Global, plan: Plan, fault: TextFault) -> Result<Task, Halt>
+    ensures { Sets result plan (λ text end. (text ≡ fault_text fault) × (end ≡ Text)) }
 {
     let mut text = ItemList::new(alloc);
     fault_text(fault, &mut text)?;
-    Ok(Reply {
+    Ok(Task::Ready(Reply {
         text,
         status: Status::Text,
-    })
+    }))
 }
 
-/// The answer for a problem that was read.
-fn answer(alloc: Global, plan: Plan, problem: &Problem) -> Result<Reply, Halt>
-    requires { IsProblem problem.now }
-    ensures { Makes result (IsAnswer plan problem.now) }
+/// What a problem that was read asks for.
+fn task_for(alloc: Global, plan: Plan, problem: Problem) -> Result<Task, Halt>
+    requires { IsProblem problem }
+    ensures { Sets result plan (IsAnswer plan problem) }
 {
     match plan.command {
-        Command::Check => checked(alloc, problem),
-        Command::Basis => basis_reply(alloc, plan.budget, problem),
-        Command::Solve => list_reply(alloc, &limits_of(plan), problem),
+        Command::Check => Ok(Task::Ready(checked(alloc, &problem)?)),
+        Command::Basis => Ok(Task::Ready(basis_reply(alloc, plan.budget, &problem)?)),
+        Command::Solve => Ok(Task::Solve(problem)),
     }
 }
 
@@ -123,14 +126,4 @@ fn checked(alloc: Global, problem: &Problem) -> Result<Reply, Halt>
         text,
         status: Status::Done,
     })
-}
-
-/// The limits of a plan.
-fn limits_of(plan: Plan) -> Limits
-    ensures { result ≡ limits_of plan }
-{
-    Limits {
-        budget: plan.budget,
-        depth: plan.depth,
-    }
 }

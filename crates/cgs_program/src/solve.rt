@@ -1,29 +1,76 @@
 //! The command `solve`.
 
-ghost use Rattle.std.specs.Prelude.{◌≡◌};
+ghost use Rattle.std.specs.Prelude.{◌≡◌, ◌<◌, ◌++◌};
 ghost use Rattle.std.specs.List.{AllByRecursion, list_any};
+ghost use Rattle.cgs_board.specs.History.{IsComplete, HasQuit};
 ghost use Rattle.cgs_entry.specs.Entries.{IsEntry, is_refused};
 ghost use Rattle.cgs_problem.specs.Problems.{IsProblem};
-ghost use Rattle.cgs_program.specs.Due.{entries_within, list_answer, status_of, IsThe};
+ghost use Rattle.cgs_print.specs.History.{history_text};
+ghost use Rattle.cgs_split.specs.NodeRun.{node_of};
+ghost use Rattle.cgs_program.specs.Due.{entries_within, root_within, limits_of, list_answer, status_of, IsThe, IsListed};
 ghost use Rattle.cgs_program.specs.Run.{Makes};
 
 use crate::reply::{Halt, Reply};
 use crate::status::Status;
+use cgs_board::EventList;
 use cgs_entry::{Entry, EntryList};
 use cgs_list::ItemList;
-use cgs_print::list_text;
+use cgs_print::{history_text, list_text};
 use cgs_problem::Problem;
 use cgs_split::Limits;
-use cgs_system::solve_alone;
+use cgs_system::{Solution, solve, solve_alone};
+use cgs_words::Plan;
+use cgs_worker::Gate;
 use std::alloc::Global;
+use std::sync::Wait;
+use std::thread::Threads;
 
-/// The entries of the comprehensive Gröbner system of a problem, within limits.
-pub(crate) fn list_reply(alloc: Global, limits: &Limits, problem: &Problem) -> Result<Reply, Halt>
-    requires { IsProblem problem.now }
-    ensures { Makes result (IsThe (list_answer problem.now (entries_within limits.now problem.now))) }
+/// The entries of a problem by workers in threads, and their history where it is asked. It may wait.
+pub(crate) fn solved<R: Threads + Wait + Sync, G: Gate + Sync>(
+    rt: &R,
+    alloc: Global,
+    plan: Plan,
+    problem: &Problem,
+    gate: &G,
+) -> Result<Reply, Halt>
+    requires workers { 0 < plan.workers }
+    requires problem { IsProblem problem.now }
+    ensures { Makes result (IsListed plan problem.now) }
 {
-    let solution = solve_alone(alloc, problem, limits)?;
-    listed(alloc, problem, &solution.entries)
+    let limits = limits_of(plan);
+    let solution = solve(rt, alloc, problem, &limits, plan.workers, gate)?;
+    list_reply(alloc, plan, problem, &solution)
+}
+
+/// The same by one worker, which does the work of all.
+pub(crate) fn solved_alone(alloc: Global, plan: Plan, problem: &Problem) -> Result<Reply, Halt>
+    requires workers { 0 < plan.workers }
+    requires problem { IsProblem problem.now }
+    ensures { Makes result (IsListed plan problem.now) }
+{
+    let solution = solve_alone(alloc, problem, &limits_of(plan))?;
+    list_reply(alloc, plan, problem, &solution)
+}
+
+/// The reply with what was found of a problem.
+fn list_reply(
+    alloc: Global,
+    plan: Plan,
+    problem: &Problem,
+    solution: &Solution,
+) -> Result<Reply, Halt>
+    requires problem { IsProblem problem.now }
+    requires list { solution.now.entries ≡ entries_within (limits_of plan) problem.now }
+    requires history { IsComplete node_of (root_within (limits_of plan) problem.now) plan.workers solution.now.history }
+    requires of_ring { AllByRecursion (IsEntry problem.now.ring) solution.now.entries }
+    ensures { Makes result (IsListed plan problem.now) }
+{
+    let reply = listed(alloc, problem, &solution.entries)?;
+    if plan.history {
+        with_history(reply, &solution.history)
+    } else {
+        Ok(reply)
+    }
 }
 
 /// The reply with these entries.
@@ -50,4 +97,27 @@ fn status_of(entries: &[Entry]) -> Status
         }
     }
     Status::Done
+}
+
+/// A reply with a history after it.
+fn with_history(reply: Reply, events: &EventList) -> Result<Reply, Halt>
+    requires { HasQuit events.now → ⊥ }
+    ensures { Makes result (λ text end. (text ≡ reply.text ++ history_text events.now) × (end ≡ reply.status)) }
+{
+    let mut text = reply.text;
+    history_text(events, &mut text)?;
+    Ok(Reply {
+        text,
+        status: reply.status,
+    })
+}
+
+/// The limits of a plan.
+fn limits_of(plan: Plan) -> Limits
+    ensures { result ≡ limits_of plan }
+{
+    Limits {
+        budget: plan.budget,
+        depth: plan.depth,
+    }
 }

@@ -21,6 +21,23 @@ poly a*x-1
 end
 ";
 
+/// The system of the line, and the history of one worker, whatever the number asked.
+const LINE_WITH_HISTORY: &[u8] = b"segment 0
+nonzero a
+basis a*x+6
+segment 1
+zero a
+basis 1
+segments 2 refused 0
+history 6
+claim 0 -
+give 0 - 2 0
+claim 0 0
+give 0 0 0 1
+claim 0 1
+give 0 1 0 1
+";
+
 /// Two polynomials whose basis takes some steps.
 const PAIR: &[u8] = b"field 7
 parameters a
@@ -42,6 +59,8 @@ const BASIS_OF_ONE_UNIT: &[&[u8]] = &[b"basis", b"--budget", b"1"];
 const SOLVE: &[&[u8]] = &[b"solve"];
 
 const SOLVE_WITHIN_ELEVEN: &[&[u8]] = &[b"solve", b"--budget", b"11"];
+
+const SOLVE_WITH_HISTORY: &[&[u8]] = &[b"solve", b"--history", b"--workers", b"64"];
 
 const SOLV: &[&[u8]] = &[b"solv"];
 
@@ -111,6 +130,7 @@ fn answers(rt: HostRuntime) -> Result<(), Fail> {
             b"segment 0\nnonzero a\nbasis a*x+6\nrefused 1 budget\nzero a\nsegments 1 refused 1\n",
             Status::Partial,
         ),
+        (SOLVE_WITH_HISTORY, LINE, LINE_WITH_HISTORY, Status::Done),
     ];
     for (words, input, written, wanted) in rows {
         let input = Vec::from_slice(alloc, input)?;

@@ -1,8 +1,7 @@
 //! S-polynomials, the queue of pairs, and basis runs with all the units that they take and with one unit fewer.
 
-ghost use Rattle.std.specs.Prelude.{◌≡◌, [], IfOk};
-ghost use Rattle.std.specs.List.{AllByRecursion};
-ghost use Rattle.cgs_poly.specs.Polynomial.{IsPoly};
+ghost use Rattle.std.specs.Prelude.{IfOk};
+ghost use Rattle.cgs_poly.specs.Polynomial.{ArePolys};
 ghost use Rattle.cgs_problem.specs.Problems.{IsProblem};
 
 use crate::given::{PLANE, is_text, poly_at, problem_of};
@@ -128,7 +127,7 @@ const ROWS: &[Row<'static>] = &[
 // The S-polynomial of the first two polynomials of a problem, alone in a list.
 fn difference(alloc: Global, problem: &Problem) -> Result<PolyList, Stop>
     requires { IsProblem problem.now }
-    ensures { IfOk result (λ list. AllByRecursion (IsPoly problem.now.ring) list) }
+    ensures { IfOk result (λ list. ArePolys problem.now.ring list) }
 {
     let (Some(f), Some(g)) = (poly_at(problem, 0), poly_at(problem, 1)) else {
         return Err(Stop::OutOfMemory);
@@ -146,7 +145,7 @@ fn difference(alloc: Global, problem: &Problem) -> Result<PolyList, Stop>
 
 fn completion(alloc: Global, problem: &Problem, fuel: &mut u64) -> Result<PolyList, Stop>
     requires { IsProblem problem.now }
-    ensures { IfOk result (λ list. AllByRecursion (IsPoly problem.now.ring) list) }
+    ensures { IfOk result (λ list. ArePolys problem.now.ring list) }
 {
     let list = complete(alloc, &problem.ring, &problem.polys, fuel)?;
     Ok(list)
@@ -154,7 +153,7 @@ fn completion(alloc: Global, problem: &Problem, fuel: &mut u64) -> Result<PolyLi
 
 fn autoreduction(alloc: Global, problem: &Problem, fuel: &mut u64) -> Result<PolyList, Stop>
     requires { IsProblem problem.now }
-    ensures { IfOk result (λ list. AllByRecursion (IsPoly problem.now.ring) list) }
+    ensures { IfOk result (λ list. ArePolys problem.now.ring list) }
 {
     let mut ample = 1000;
     let members = complete(alloc, &problem.ring, &problem.polys, &mut ample)?;
@@ -164,7 +163,7 @@ fn autoreduction(alloc: Global, problem: &Problem, fuel: &mut u64) -> Result<Pol
 
 fn basis(alloc: Global, problem: &Problem, fuel: &mut u64) -> Result<PolyList, Stop>
     requires { IsProblem problem.now }
-    ensures { IfOk result (λ list. AllByRecursion (IsPoly problem.now.ring) list) }
+    ensures { IfOk result (λ list. ArePolys problem.now.ring list) }
 {
     let list = reduced_basis(alloc, &problem.ring, &problem.polys, fuel)?;
     Ok(list)
@@ -173,7 +172,7 @@ fn basis(alloc: Global, problem: &Problem, fuel: &mut u64) -> Result<PolyList, S
 // What a run makes of the polynomials of a problem.
 fn run_on(alloc: Global, run: Run, problem: &Problem, fuel: &mut u64) -> Result<PolyList, Stop>
     requires { IsProblem problem.now }
-    ensures { IfOk result (λ list. AllByRecursion (IsPoly problem.now.ring) list) }
+    ensures { IfOk result (λ list. ArePolys problem.now.ring list) }
 {
     match run {
         Run::Difference => difference(alloc, problem),

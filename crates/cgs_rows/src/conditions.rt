@@ -1,9 +1,8 @@
 //! Conditions on the parameters: emptiness runs, points, lists of conditions, leading coefficients.
 
-ghost use Rattle.std.specs.Prelude.{◌≡◌, [], IfOk, ◌↔◌, IsTrue};
+ghost use Rattle.std.specs.Prelude.{◌≡◌, [], IfOk, IsTrue};
 ghost use Rattle.std.specs.List.{AllByRecursion};
-ghost use Rattle.cgs_poly.specs.Polynomial.{IsPoly};
-ghost use Rattle.cgs_poly.specs.Parameters.{IsCondition};
+ghost use Rattle.cgs_poly.specs.Polynomial.{ArePolys};
 ghost use Rattle.cgs_problem.specs.Problems.{IsProblem};
 
 use crate::given::{
@@ -158,7 +157,7 @@ fn recast(rt: HostRuntime) -> Result<(), Fail> {
 // The conditions of a problem added to each other.
 fn added(alloc: Global, problem: &Problem) -> Result<PolyList, Fail>
     requires { IsProblem problem.now }
-    ensures { IfOk result (λ list. AllByRecursion (IsPoly problem.now.ring) list) }
+    ensures { IfOk result (λ list. ArePolys problem.now.ring list) }
 {
     let mut list = PolyList::new(alloc);
     for i in 0..problem.zero.len() {

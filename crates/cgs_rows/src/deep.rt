@@ -1,6 +1,6 @@
 //! Trees about as deep as the depth of 255 allows, walked on a stack of 8 KiB for each level. A walk that takes more ends the process.
 
-ghost use Rattle.std.specs.Prelude.{◌≡◌, ◌↔◌, ℕ, List, Option, IfOk, IsTrue};
+ghost use Rattle.std.specs.Prelude.{ℕ};
 ghost use Rattle.cgs_rows.specs.Chains.{chain, levels, chain_falls};
 
 use crate::given::{LINE, problem_of};

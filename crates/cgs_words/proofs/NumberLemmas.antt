@@ -26,12 +26,14 @@ pub is_text : (ds : List ℕ) → is_numeral ds ≡ true → IsUtf8 ds
 is_text ds h = IsUtf8-from_ascii ds (IsAscii-from_digits ds (numerals.to ds (digits_alone ds h)))
 
 -- the value, or no room for it
-pub parsed : {E : Type 0} (ds bs : List ℕ) (r : Result ℕ E) → is_numeral ds ≡ true → bs ≡ ds → ParsesUnsigned 64 10 bs r → MatchOption (result_ok r) (2 ^ 64 ≤ digits_value 10 ds) (λ n. n ≡ digits_value 10 ds)
+pub parsed : {E : Type 0} (ds bs : List ℕ) (r : Result ℕ E) → is_numeral ds ≡ true → bs ≡ ds → ParsesUnsigned 64 10 bs r
+    → MatchOption (result_ok r) (2 ^ 64 ≤ digits_value 10 ds) (λ n. n ≡ digits_value 10 ds)
 parsed {E} ds bs r h e p = told r (parse_digits numerals 64 ds r (rw e at p) (digits_alone ds h))
   where
     no_room : ¬ ((0 < length ds) × (digits_value 10 ds < 2 ^ 64)) → 2 ^ 64 ≤ digits_value 10 ds
     no_room q = let some : 0 < length ds = not_empty ds h in grind arith
 
-    told : (r : Result ℕ E) → OkIff r ((0 < length ds) × (digits_value 10 ds < 2 ^ 64)) (digits_value 10 ds) → MatchOption (result_ok r) (2 ^ 64 ≤ digits_value 10 ds) (λ n. n ≡ digits_value 10 ds)
+    told : (r : Result ℕ E) → OkIff r ((0 < length ds) × (digits_value 10 ds < 2 ^ 64)) (digits_value 10 ds)
+        → MatchOption (result_ok r) (2 ^ 64 ≤ digits_value 10 ds) (λ n. n ≡ digits_value 10 ds)
     told (Ok n) q = q.1
     told (Err e) q = no_room q

@@ -1,21 +1,20 @@
 -- What the words of the command line ask for.
-use Rattle.std.specs.Prelude.{ℕ, Bool, false, List, [], ◌∷◌, ◌&&◌, ◌==◌, if◌then◌else◌, nat_le, codes, bytes_eq, Some, None, Result, Ok, Err}
+use Rattle.std.specs.Prelude.{ℕ, Bool, true, false, List, [], ◌∷◌, ◌&&◌, ◌==◌, if◌then◌else◌, nat_le, codes, bytes_eq, Some, None, Result, Ok, Err}
 use Rattle.std.specs.Char.{is_ascii_digit}
 use Rattle.std.specs.Option.{unwrap_or, is_some}
 use Rattle.std.specs.List.{list_all}
 use Rattle.std.specs.Str.Parse.{digits_value}
+use Rattle.cgs_list.specs.Results.{and_then}
 use Rattle.cgs_words.specs.declared.options.Name.{Name}
-use Rattle.cgs_words.specs.declared.options.Name.TheVariants.{Budget, Depth}
+use Rattle.cgs_words.specs.declared.options.Name.TheVariants.{Valued, History}
+use Rattle.cgs_words.specs.declared.options.Limit.{Limit}
+use Rattle.cgs_words.specs.declared.options.Limit.TheVariants.{Workers, Budget, Depth}
 use Rattle.cgs_words.specs.declared.options.Options.{Options}
 use Rattle.cgs_words.specs.declared.plan.Command.{Command}
 use Rattle.cgs_words.specs.declared.plan.Command.TheVariants.{Check, Basis, Solve}
 use Rattle.cgs_words.specs.declared.plan.Plan.{Plan}
 use Rattle.cgs_words.specs.declared.plan.WordFault.{WordFault}
 use Rattle.cgs_words.specs.declared.plan.WordFault.TheVariants as fault
-
-abbrev pub and_then : {A B : Type 0} → Result A WordFault → (A → Result B WordFault) → Result B WordFault
-and_then (Ok x) f = f x
-and_then (Err fault) f = Err fault
 
 -- digits alone, and 0 first only in `0` itself
 abbrev pub is_numeral : List ℕ → Bool
@@ -28,38 +27,58 @@ abbrev pub number_in : ℕ → ℕ → List ℕ → Result ℕ WordFault
 number_in least most word =
     if is_numeral word && nat_le least (digits_value 10 word) && nat_le (digits_value 10 word) most then Ok (digits_value 10 word) else Err fault.Value
 
+abbrev pub most_workers : ℕ
+most_workers = 64
+
+abbrev pub most_budget : ℕ
+most_budget = 1000000000000
+
+abbrev pub most_depth : ℕ
+most_depth = 255
+
 abbrev pub no_options : Options
-no_options = record { budget = None; depth = None }
+no_options = record { workers = None; budget = None; depth = None; history = false }
 
 abbrev pub option_of : List ℕ → Result Name WordFault
 option_of word =
-    if bytes_eq word (codes "--budget") then Ok Budget
-    else (if bytes_eq word (codes "--depth") then Ok Depth
-    else Err fault.Option)
+    if bytes_eq word (codes "--workers") then Ok (Valued Workers)
+    else (if bytes_eq word (codes "--budget") then Ok (Valued Budget)
+    else (if bytes_eq word (codes "--depth") then Ok (Valued Depth)
+    else (if bytes_eq word (codes "--history") then Ok History
+    else Err fault.Option)))
 
 abbrev pub is_given : Options → Name → Bool
-is_given options Budget = is_some options.budget
-is_given options Depth = is_some options.depth
+is_given options (Valued Workers) = is_some options.workers
+is_given options (Valued Budget) = is_some options.budget
+is_given options (Valued Depth) = is_some options.depth
+is_given options History = options.history
 
 -- an option that was not given before
 abbrev pub new_option : Options → List ℕ → Result Name WordFault
 new_option options word = and_then (option_of word) (λ name. if is_given options name then Err fault.Repeat else Ok name)
 
 -- the options with the value of one more
-abbrev pub with_value : Options → Name → List ℕ → Result Options WordFault
-with_value options Budget word = and_then (number_in 1 1000000000000 word) (λ n. Ok (record options { budget = Some n }))
-with_value options Depth word = and_then (number_in 1 255 word) (λ n. Ok (record options { depth = Some n }))
+abbrev pub with_value : Options → Limit → List ℕ → Result Options WordFault
+with_value options Workers word = and_then (number_in 1 most_workers word) (λ n. Ok (record options { workers = Some n }))
+with_value options Budget word = and_then (number_in 1 most_budget word) (λ n. Ok (record options { budget = Some n }))
+with_value options Depth word = and_then (number_in 1 most_depth word) (λ n. Ok (record options { depth = Some n }))
+
+-- what follows for an option that takes a value, and for the one that takes none
+abbrev pub by_name : {A : Type 0} → Name → (Limit → A) → A → A
+by_name (Valued limit) valued bare = valued limit
+by_name History valued bare = bare
 
 unfoldable mutual
   -- An option is expected.
   pub options_of : Options → List (List ℕ) → Result Options WordFault
   options_of options [] = Ok options
-  options_of options (word ∷ words) = and_then (new_option options word) (λ name. value_of options name words)
+  options_of options (word ∷ words) =
+      and_then (new_option options word) (λ name. by_name name (λ limit. value_of options limit words) (options_of (record options { history = true }) words))
 
   -- The value of an option is expected.
-  pub value_of : Options → Name → List (List ℕ) → Result Options WordFault
-  value_of options name [] = Err fault.Value
-  value_of options name (word ∷ words) = and_then (with_value options name word) (λ next. options_of next words)
+  pub value_of : Options → Limit → List (List ℕ) → Result Options WordFault
+  value_of options limit [] = Err fault.Value
+  value_of options limit (word ∷ words) = and_then (with_value options limit word) (λ next. options_of next words)
 
 abbrev pub command_of : List ℕ → Result Command WordFault
 command_of word =
@@ -68,10 +87,25 @@ command_of word =
     else (if bytes_eq word (codes "solve") then Ok Solve
     else Err fault.Command))
 
+abbrev pub usual_workers : ℕ
+usual_workers = 1
+
+abbrev pub usual_budget : ℕ
+usual_budget = 10000000
+
+abbrev pub usual_depth : ℕ
+usual_depth = 64
+
 -- a command with these options, and with the usual values of those that were not given
 abbrev pub plan_with : Command → Options → Plan
 plan_with command options =
-    record { command = command; workers = 1; budget = unwrap_or options.budget 10000000; depth = unwrap_or options.depth 64; history = false }
+    record {
+      command = command;
+      workers = unwrap_or options.workers usual_workers;
+      budget = unwrap_or options.budget usual_budget;
+      depth = unwrap_or options.depth usual_depth;
+      history = options.history;
+    }
 
 -- the first word is a command, and the others are its options
 abbrev pub plan_of : List (List ℕ) → Result Plan WordFault

@@ -16,6 +16,7 @@ fn words_of(alloc: Global, line: &str) -> Result<WordList, AllocError> {
     Ok(words)
 }
 
+// A plan with one worker and no history.
 fn plan(command: Command, budget: u64, depth: u32) -> Plan {
     Plan {
         command,
@@ -23,6 +24,17 @@ fn plan(command: Command, budget: u64, depth: u32) -> Plan {
         budget,
         depth,
         history: false,
+    }
+}
+
+// A plan to solve within the usual limits.
+fn solve(workers: u32, history: bool) -> Plan {
+    Plan {
+        command: Command::Solve,
+        workers,
+        budget: 10000000,
+        depth: 64,
+        history,
     }
 }
 
@@ -60,8 +72,21 @@ fn plans(rt: HostRuntime) -> Result<(), Fail> {
         ("check --depth 2 --depth 3", Err(WordFault::Repeat)),
         ("check --depth 1 --depth", Err(WordFault::Repeat)),
         ("check --depth 1 --depth x", Err(WordFault::Repeat)),
-        ("check --workers 2", Err(WordFault::Option)),
-        ("check --history", Err(WordFault::Option)),
+        ("solve --workers 1", Ok(solve(1, false))),
+        ("solve --workers 64", Ok(solve(64, false))),
+        ("solve --history", Ok(solve(1, true))),
+        ("solve --workers 2 --history", Ok(solve(2, true))),
+        ("solve --history --workers 2", Ok(solve(2, true))),
+        ("solve --workers 0", Err(WordFault::Value)),
+        ("solve --workers 65", Err(WordFault::Value)),
+        ("solve --workers 08", Err(WordFault::Value)),
+        ("solve --workers", Err(WordFault::Value)),
+        ("solve --workers --history", Err(WordFault::Value)),
+        ("solve --workers 2 --workers 3", Err(WordFault::Repeat)),
+        ("solve --workers 2 --workers 65", Err(WordFault::Repeat)),
+        ("solve --history --history", Err(WordFault::Repeat)),
+        ("solve --history 3", Err(WordFault::Option)),
+        ("solve 3", Err(WordFault::Option)),
         ("check check", Err(WordFault::Option)),
         ("check --fast", Err(WordFault::Option)),
     ];

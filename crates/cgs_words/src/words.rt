@@ -1,11 +1,13 @@
 //! A plan is read from the words.
 
-ghost use Rattle.std.specs.Prelude.{◌≡◌};
-ghost use Rattle.cgs_words.specs.Words.{plan_of, command_of, plan_with};
+ghost use Rattle.std.specs.Prelude.{◌≡◌, ◌<◌, ◌≤◌, IfOk};
+ghost use Rattle.cgs_words.specs.Words.{plan_of, command_of, plan_with, most_workers};
 
 use crate::options::{Options, read_options};
 use crate::plan::{Command, Plan, WordFault};
 use cgs_io::WordList;
+
+const WORKERS: u32 = 1;
 
 const BUDGET: u64 = 10_000_000;
 
@@ -13,7 +15,9 @@ const DEPTH: u32 = 64;
 
 /// The plan that the words after the program's name ask for, or their first fault.
 pub fn read_words(words: &WordList) -> Result<Plan, WordFault>
-    ensures { result ≡ plan_of words.now }
+    ensures plan { result ≡ plan_of words.now }
+    ensures some_worker { IfOk result (λ plan. 0 < plan.workers) }
+    ensures few_workers { IfOk result (λ plan. plan.workers ≤ most_workers) }
 {
     let Some((word, rest)) = words.as_slice().split_first() else {
         return Err(WordFault::NoWord);
@@ -43,9 +47,9 @@ fn plan(command: Command, options: Options) -> Plan
 {
     Plan {
         command,
-        workers: 1,
+        workers: options.workers.unwrap_or(WORKERS),
         budget: options.budget.unwrap_or(BUDGET),
         depth: options.depth.unwrap_or(DEPTH),
-        history: false,
+        history: options.history,
     }
 }

@@ -25,7 +25,8 @@ pub returns-in_err-push_all : goal.returns-in_err-push_all
 returns-in_err-push_all c =
     let name = get_or c.args.names.now c.loop-name.name-index c.name-item.result in
     let front : AppendsFront c.loop-name.out c.push_all.new.out (word name) =
-    subst (AppendsFront c.loop-name.out c.push_all.new.out) (appended_word name c.as_slice.result.now (c.as_slice.ensures ∙ c.name-item.is)) c.in_err-push_all.ensures in
+    subst (AppendsFront c.loop-name.out c.push_all.new.out)
+    (appended_word name c.as_slice.result.now (c.as_slice.ensures ∙ c.name-item.is)) c.in_err-push_all.ensures in
     at_exit _ _ _ _ c.from_residual-in_err-push_all.ensures.0
     (front_of_item word c.args.names.now c.loop-name.name-index _ (codes "\n") c.loop-name-test.true c.loop-name.invariant front)
 

@@ -16,7 +16,8 @@ returns-in_err-push_all c =
     let numbers = c.as_slice-number-items.result.now in
     let n = get_or numbers c.loop-number.number-index c.number-item.result in
     let printed : c.as_bytes.result.now ≡ decimal n = c.as_bytes.ensures.value ∙ c.format.ensures.text ∙ ap decimal (c.number.ensures ∙ c.number-item.is) in
-    let front : AppendsFront c.loop-number.out c.push_all.new.out (word n) = subst (AppendsFront c.loop-number.out c.push_all.new.out) (appended_word n c.as_bytes.result.now printed) c.in_err-push_all.ensures in
+    let front : AppendsFront c.loop-number.out c.push_all.new.out (word n) =
+    subst (AppendsFront c.loop-number.out c.push_all.new.out) (appended_word n c.as_bytes.result.now printed) c.in_err-push_all.ensures in
     at_exit _ _ _ _ c.from_residual-in_err-push_all.ensures.0
     (front_of_item word numbers c.loop-number.number-index _ (codes "\n") c.loop-number-test.true c.loop-number.invariant front)
 
@@ -30,5 +31,6 @@ loop-number-preserved c =
 
 pub returns : goal.returns
 returns c =
-    ends _ _ (codes "\n") (leaves_no_item word c.as_slice-number-items.result.now c.loop-number.number-index (codes "\n") c.loop-number-test.false c.loop-number.invariant)
+    ends _ _ (codes "\n") (leaves_no_item word c.as_slice-number-items.result.now c.loop-number.number-index
+    (codes "\n") c.loop-number-test.false c.loop-number.invariant)
     (extended _ _ _ _ c.extend_from_slice-2.ensures.ok c.extend_from_slice-2.ensures.err)

@@ -10,7 +10,8 @@ pub returns-in_err-push_all : goal.returns-in_err-push_all
 returns-in_err-push_all c =
     let keyword = c.args.keyword.now in
     let f = polynomial_text c.args.ring.now c.args.names.now c.args.f.now in
-    at_exit _ _ _ _ c.from_residual.ensures.0 (front_of_piece (keyword ++ codes " ") (f ++ codes "\n") (all_left keyword f c.args.out.now) c.in_err-push_all.ensures)
+    at_exit _ _ _ _ c.from_residual.ensures.0
+    (front_of_piece (keyword ++ codes " ") (f ++ codes "\n") (all_left keyword f c.args.out.now) c.in_err-push_all.ensures)
 
 pub returns-in_err-polynomial_text : goal.returns-in_err-polynomial_text
 returns-in_err-polynomial_text c =
@@ -25,5 +26,6 @@ returns c =
     let keyword = c.args.keyword.now in
     let f = polynomial_text c.args.ring.now c.args.names.now c.args.f.now in
     ends _ _ (codes "\n")
-    (leaves_rest f (codes "\n") (leaves_rest (keyword ++ codes " ") (f ++ codes "\n") (all_left keyword f c.args.out.now) c.in_ok-push_all.ensures) c.in_ok-polynomial_text.ensures)
+    (leaves_rest f (codes "\n") (leaves_rest (keyword ++ codes " ") (f ++ codes "\n") (all_left keyword f c.args.out.now) c.in_ok-push_all.ensures)
+    c.in_ok-polynomial_text.ensures)
     (extended _ _ _ _ c.extend_from_slice.ensures.ok c.extend_from_slice.ensures.err)

@@ -5,4 +5,5 @@ use Rattle.cgs_print.proofs.PrintLemmas.{Leaves}
 use Rattle.cgs_print.proofs.line.polynomial_lines.Given as goal
 
 abbrev pub invariant-loop-f : goal.invariant-loop-f
-invariant-loop-f l = Leaves l.fn.out l.out (polynomial_lines l.keyword l.ring l.names l.list) (flat_map (polynomial_line l.keyword l.ring l.names) (drop l.f-index l.list) ++ [])
+invariant-loop-f l = Leaves l.fn.out l.out (polynomial_lines l.keyword l.ring l.names l.list)
+    (flat_map (polynomial_line l.keyword l.ring l.names) (drop l.f-index l.list) ++ [])

@@ -5,4 +5,5 @@ use Rattle.cgs_print.proofs.list.following_numbers.Given as goal
 
 abbrev pub invariant-loop-number : goal.invariant-loop-number
 invariant-loop-number l =
-    Leaves l.fn.out l.out (flat_map (λ number. codes "." ++ decimal number) l.numbers) (flat_map (λ number. codes "." ++ decimal number) (drop l.number-index l.numbers) ++ [])
+    Leaves l.fn.out l.out (flat_map (λ number. codes "." ++ decimal number) l.numbers)
+    (flat_map (λ number. codes "." ++ decimal number) (drop l.number-index l.numbers) ++ [])

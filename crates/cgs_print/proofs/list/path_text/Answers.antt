@@ -22,7 +22,8 @@ returns-in_err-number_text c =
     let numbers = c.as_slice-numbers.result.now in
     let some : 0 < length numbers = grind (arith, nat_tests) in
     let whole = front_first c.args.out.now c.number_text.new.out (first_text numbers) (rest_text numbers) c.in_err-number_text.ensures in
-    at_exit c.from_residual.result c.args.out.now c.number_text.new.out (path_text c.args.path.now) c.from_residual.ensures.0 (rw (← c.as_slice-numbers.ensures, ← split numbers some) whole)
+    at_exit c.from_residual.result c.args.out.now c.number_text.new.out (path_text c.args.path.now) c.from_residual.ensures.0
+    (rw (← c.as_slice-numbers.ensures, ← split numbers some) whole)
 
 pub returns : goal.returns
 returns c =

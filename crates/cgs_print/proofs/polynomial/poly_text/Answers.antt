@@ -9,4 +9,5 @@ returns c =
     let names = c.args.names.now in
     let f = c.args.f.now in
     let same = polynomial_taken ring names f c.requires.poly.canonical in
-    subst (λ (text : List ℕ). Prints c.polynomial_text.result c.args.out.now c.polynomial_text.new.out text) same (rw (← c.as_slice.ensures, ← c.places.ensures) c.polynomial_text.ensures)
+    subst (λ (text : List ℕ). Prints c.polynomial_text.result c.args.out.now c.polynomial_text.new.out text) same
+    (rw (← c.as_slice.ensures, ← c.places.ensures) c.polynomial_text.ensures)

@@ -1,7 +1,7 @@
 use Rattle.std.proofs.Common.{◌≡◌, ◌++◌, ℕ, List, [], ◌∷◌, codes, ap, ◌∙◌, subst, append_assoc}
 use Rattle.std.specs.List.{flat_map, AllByRecursion}
 use Rattle.cgs_poly.specs.declared.ring.Ring.{Ring}
-use Rattle.cgs_poly.specs.Polynomial.{Term, IsPoly}
+use Rattle.cgs_poly.specs.Polynomial.{Term, ArePolys}
 use Rattle.cgs_poly.specs.Parameters.{IsCondition}
 use Rattle.cgs_problem.specs.declared.problem.Problem.{Problem}
 use Rattle.cgs_print.specs.Printing.{polynomial_lines, thesis_line, point_line, body_text, AppendsFront, Prints}
@@ -42,18 +42,21 @@ nonzero_done : (problem : Problem) (old mid new : List ℕ) → Leaves old mid (
     → Leaves old new (body_text problem) (polys_of problem ++ (thesis_of problem ++ points_of problem))
 nonzero_done problem old mid new l e = leaves_rest (nonzero_of problem) (polys_of problem ++ (thesis_of problem ++ points_of problem)) l e
 
-polys_done : (problem : Problem) (old mid new : List ℕ) → Leaves old mid (body_text problem) (polys_of problem ++ (thesis_of problem ++ points_of problem)) → new ≡ mid ++ polys_of problem
+polys_done : (problem : Problem) (old mid new : List ℕ) → Leaves old mid (body_text problem) (polys_of problem ++ (thesis_of problem ++ points_of problem))
+    → new ≡ mid ++ polys_of problem
     → Leaves old new (body_text problem) (thesis_of problem ++ points_of problem)
 polys_done problem old mid new l e = leaves_rest (polys_of problem) (thesis_of problem ++ points_of problem) l e
 
 pub returns-in_err-polynomial_lines : goal.returns-in_err-polynomial_lines
 returns-in_err-polynomial_lines c =
     let problem : Problem = c.args.problem.now in
-    let zero : polynomial_lines (codes "zero") problem.ring c.as_slice-names.result.now c.as_slice.result.now ≡ zero_of problem = cc (c.as_slice-names.ensures, c.as_slice.ensures) in
+    let zero : polynomial_lines (codes "zero") problem.ring c.as_slice-names.result.now c.as_slice.result.now ≡ zero_of problem =
+    cc (c.as_slice-names.ensures, c.as_slice.ensures) in
     at_exit _ _ _ _ c.from_residual.ensures.0
-    (front_of_piece (zero_of problem) (after_zero problem) (all_left problem c.args.out.now) (subst (AppendsFront c.args.out.now c.polynomial_lines.new.out) zero c.in_err-polynomial_lines.ensures))
+    (front_of_piece (zero_of problem) (after_zero problem) (all_left problem c.args.out.now)
+    (subst (AppendsFront c.args.out.now c.polynomial_lines.new.out) zero c.in_err-polynomial_lines.ensures))
 
-conditions_polys : (ring : Ring) (fs : List (List Term)) → AllByRecursion (IsCondition ring) fs → AllByRecursion (IsPoly ring) fs
+conditions_polys : (ring : Ring) (fs : List (List Term)) → AllByRecursion (IsCondition ring) fs → ArePolys ring fs
 conditions_polys ring [] h = tt
 conditions_polys ring (f ∷ fs) h = (h.0.poly, conditions_polys ring fs h.1)
 
@@ -63,8 +66,10 @@ polynomial_lines-requires-2-clause-polys c = rw c.as_slice-2.ensures (conditions
 pub returns-in_err-polynomial_lines-2 : goal.returns-in_err-polynomial_lines-2
 returns-in_err-polynomial_lines-2 c =
     let problem : Problem = c.args.problem.now in
-    let zero : polynomial_lines (codes "zero") problem.ring c.as_slice-names.result.now c.as_slice.result.now ≡ zero_of problem = cc (c.as_slice-names.ensures, c.as_slice.ensures) in
-    let nonzero : polynomial_lines (codes "nonzero") problem.ring c.as_slice-names.result.now c.as_slice-2.result.now ≡ nonzero_of problem = cc (c.as_slice-names.ensures, c.as_slice-2.ensures) in
+    let zero : polynomial_lines (codes "zero") problem.ring c.as_slice-names.result.now c.as_slice.result.now ≡ zero_of problem =
+    cc (c.as_slice-names.ensures, c.as_slice.ensures) in
+    let nonzero : polynomial_lines (codes "nonzero") problem.ring c.as_slice-names.result.now c.as_slice-2.result.now ≡ nonzero_of problem =
+    cc (c.as_slice-names.ensures, c.as_slice-2.ensures) in
     at_exit _ _ _ _ c.from_residual-in_err-polynomial_lines-2.ensures.0
     (front_of_piece (nonzero_of problem) (polys_of problem ++ (thesis_of problem ++ points_of problem))
     (zero_done problem c.args.out.now _ (c.in_ok-polynomial_lines.ensures ∙ ap (λ (xs : List ℕ). c.args.out.now ++ xs) zero))
@@ -73,11 +78,15 @@ returns-in_err-polynomial_lines-2 c =
 pub returns-in_err-polynomial_lines-3 : goal.returns-in_err-polynomial_lines-3
 returns-in_err-polynomial_lines-3 c =
     let problem : Problem = c.args.problem.now in
-    let zero : polynomial_lines (codes "zero") problem.ring c.as_slice-names.result.now c.as_slice.result.now ≡ zero_of problem = cc (c.as_slice-names.ensures, c.as_slice.ensures) in
-    let nonzero : polynomial_lines (codes "nonzero") problem.ring c.as_slice-names.result.now c.as_slice-2.result.now ≡ nonzero_of problem = cc (c.as_slice-names.ensures, c.as_slice-2.ensures) in
-    let polys : polynomial_lines (codes "poly") problem.ring c.as_slice-names.result.now c.as_slice-3.result.now ≡ polys_of problem = cc (c.as_slice-names.ensures, c.as_slice-3.ensures) in
+    let zero : polynomial_lines (codes "zero") problem.ring c.as_slice-names.result.now c.as_slice.result.now ≡ zero_of problem =
+    cc (c.as_slice-names.ensures, c.as_slice.ensures) in
+    let nonzero : polynomial_lines (codes "nonzero") problem.ring c.as_slice-names.result.now c.as_slice-2.result.now ≡ nonzero_of problem =
+    cc (c.as_slice-names.ensures, c.as_slice-2.ensures) in
+    let polys : polynomial_lines (codes "poly") problem.ring c.as_slice-names.result.now c.as_slice-3.result.now ≡ polys_of problem =
+    cc (c.as_slice-names.ensures, c.as_slice-3.ensures) in
     let first = zero_done problem c.args.out.now _ (c.in_ok-polynomial_lines.ensures ∙ ap (λ (xs : List ℕ). c.args.out.now ++ xs) zero) in
-    let second = nonzero_done problem c.args.out.now _ _ first (c.in_ok-polynomial_lines-2.ensures ∙ ap (λ (xs : List ℕ). c.polynomial_lines.new.out ++ xs) nonzero) in
+    let second = nonzero_done problem c.args.out.now _ _ first
+    (c.in_ok-polynomial_lines-2.ensures ∙ ap (λ (xs : List ℕ). c.polynomial_lines.new.out ++ xs) nonzero) in
     at_exit _ _ _ _ c.from_residual-in_err-polynomial_lines-3.ensures.0
     (front_of_piece (polys_of problem) (thesis_of problem ++ points_of problem) second
     (subst (AppendsFront c.polynomial_lines-2.new.out c.polynomial_lines-3.new.out) polys c.in_err-polynomial_lines-3.ensures))
@@ -85,13 +94,19 @@ returns-in_err-polynomial_lines-3 c =
 pub returns-in_err-thesis_line : goal.returns-in_err-thesis_line
 returns-in_err-thesis_line c =
     let problem : Problem = c.args.problem.now in
-    let zero : polynomial_lines (codes "zero") problem.ring c.as_slice-names.result.now c.as_slice.result.now ≡ zero_of problem = cc (c.as_slice-names.ensures, c.as_slice.ensures) in
-    let nonzero : polynomial_lines (codes "nonzero") problem.ring c.as_slice-names.result.now c.as_slice-2.result.now ≡ nonzero_of problem = cc (c.as_slice-names.ensures, c.as_slice-2.ensures) in
-    let polys : polynomial_lines (codes "poly") problem.ring c.as_slice-names.result.now c.as_slice-3.result.now ≡ polys_of problem = cc (c.as_slice-names.ensures, c.as_slice-3.ensures) in
-    let thesis : thesis_line problem.ring c.as_slice-names.result.now problem.thesis ≡ thesis_of problem = ap (λ names. thesis_line problem.ring names problem.thesis) c.as_slice-names.ensures in
+    let zero : polynomial_lines (codes "zero") problem.ring c.as_slice-names.result.now c.as_slice.result.now ≡ zero_of problem =
+    cc (c.as_slice-names.ensures, c.as_slice.ensures) in
+    let nonzero : polynomial_lines (codes "nonzero") problem.ring c.as_slice-names.result.now c.as_slice-2.result.now ≡ nonzero_of problem =
+    cc (c.as_slice-names.ensures, c.as_slice-2.ensures) in
+    let polys : polynomial_lines (codes "poly") problem.ring c.as_slice-names.result.now c.as_slice-3.result.now ≡ polys_of problem =
+    cc (c.as_slice-names.ensures, c.as_slice-3.ensures) in
+    let thesis : thesis_line problem.ring c.as_slice-names.result.now problem.thesis ≡ thesis_of problem =
+    ap (λ names. thesis_line problem.ring names problem.thesis) c.as_slice-names.ensures in
     let first = zero_done problem c.args.out.now _ (c.in_ok-polynomial_lines.ensures ∙ ap (λ (xs : List ℕ). c.args.out.now ++ xs) zero) in
-    let second = nonzero_done problem c.args.out.now _ _ first (c.in_ok-polynomial_lines-2.ensures ∙ ap (λ (xs : List ℕ). c.polynomial_lines.new.out ++ xs) nonzero) in
-    let third = polys_done problem c.args.out.now _ _ second (c.in_ok-polynomial_lines-3.ensures ∙ ap (λ (xs : List ℕ). c.polynomial_lines-2.new.out ++ xs) polys) in
+    let second = nonzero_done problem c.args.out.now _ _ first
+    (c.in_ok-polynomial_lines-2.ensures ∙ ap (λ (xs : List ℕ). c.polynomial_lines.new.out ++ xs) nonzero) in
+    let third = polys_done problem c.args.out.now _ _ second
+    (c.in_ok-polynomial_lines-3.ensures ∙ ap (λ (xs : List ℕ). c.polynomial_lines-2.new.out ++ xs) polys) in
     at_exit _ _ _ _ c.from_residual-in_err-thesis_line.ensures.0
     (front_of_piece (thesis_of problem) (points_of problem) third
     (subst (AppendsFront c.polynomial_lines-3.new.out c.thesis_line.new.out) thesis c.in_err-thesis_line.ensures))
@@ -99,13 +114,21 @@ returns-in_err-thesis_line c =
 pub returns : goal.returns
 returns c =
     let problem : Problem = c.args.problem.now in
-    let zero : polynomial_lines (codes "zero") problem.ring c.as_slice-names.result.now c.as_slice.result.now ≡ zero_of problem = cc (c.as_slice-names.ensures, c.as_slice.ensures) in
-    let nonzero : polynomial_lines (codes "nonzero") problem.ring c.as_slice-names.result.now c.as_slice-2.result.now ≡ nonzero_of problem = cc (c.as_slice-names.ensures, c.as_slice-2.ensures) in
-    let polys : polynomial_lines (codes "poly") problem.ring c.as_slice-names.result.now c.as_slice-3.result.now ≡ polys_of problem = cc (c.as_slice-names.ensures, c.as_slice-3.ensures) in
-    let thesis : thesis_line problem.ring c.as_slice-names.result.now problem.thesis ≡ thesis_of problem = ap (λ names. thesis_line problem.ring names problem.thesis) c.as_slice-names.ensures in
+    let zero : polynomial_lines (codes "zero") problem.ring c.as_slice-names.result.now c.as_slice.result.now ≡ zero_of problem =
+    cc (c.as_slice-names.ensures, c.as_slice.ensures) in
+    let nonzero : polynomial_lines (codes "nonzero") problem.ring c.as_slice-names.result.now c.as_slice-2.result.now ≡ nonzero_of problem =
+    cc (c.as_slice-names.ensures, c.as_slice-2.ensures) in
+    let polys : polynomial_lines (codes "poly") problem.ring c.as_slice-names.result.now c.as_slice-3.result.now ≡ polys_of problem =
+    cc (c.as_slice-names.ensures, c.as_slice-3.ensures) in
+    let thesis : thesis_line problem.ring c.as_slice-names.result.now problem.thesis ≡ thesis_of problem =
+    ap (λ names. thesis_line problem.ring names problem.thesis) c.as_slice-names.ensures in
     let points : flat_map point_line c.as_slice-4.result.now ≡ points_of problem = ap (λ ps. flat_map point_line ps) c.as_slice-4.ensures in
     let first = zero_done problem c.args.out.now _ (c.in_ok-polynomial_lines.ensures ∙ ap (λ (xs : List ℕ). c.args.out.now ++ xs) zero) in
-    let second = nonzero_done problem c.args.out.now _ _ first (c.in_ok-polynomial_lines-2.ensures ∙ ap (λ (xs : List ℕ). c.polynomial_lines.new.out ++ xs) nonzero) in
-    let third = polys_done problem c.args.out.now _ _ second (c.in_ok-polynomial_lines-3.ensures ∙ ap (λ (xs : List ℕ). c.polynomial_lines-2.new.out ++ xs) polys) in
-    let fourth = leaves_rest (thesis_of problem) (points_of problem) third (c.in_ok-thesis_line.ensures ∙ ap (λ (xs : List ℕ). c.polynomial_lines-3.new.out ++ xs) thesis) in
-    ends _ _ (points_of problem) fourth (subst (λ (text : List ℕ). Prints c.point_lines.result c.thesis_line.new.out c.point_lines.new.out text) points c.point_lines.ensures)
+    let second = nonzero_done problem c.args.out.now _ _ first
+    (c.in_ok-polynomial_lines-2.ensures ∙ ap (λ (xs : List ℕ). c.polynomial_lines.new.out ++ xs) nonzero) in
+    let third = polys_done problem c.args.out.now _ _ second
+    (c.in_ok-polynomial_lines-3.ensures ∙ ap (λ (xs : List ℕ). c.polynomial_lines-2.new.out ++ xs) polys) in
+    let fourth = leaves_rest (thesis_of problem) (points_of problem) third
+    (c.in_ok-thesis_line.ensures ∙ ap (λ (xs : List ℕ). c.polynomial_lines-3.new.out ++ xs) thesis) in
+    ends _ _ (points_of problem) fourth (subst
+    (λ (text : List ℕ). Prints c.point_lines.result c.thesis_line.new.out c.point_lines.new.out text) points c.point_lines.ensures)

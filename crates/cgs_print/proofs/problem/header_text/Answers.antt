@@ -16,10 +16,12 @@ variables_of problem = names_line (codes "variables") (take problem.ring.variabl
 abbrev order_of : Problem → List ℕ
 order_of problem = order_line problem.ring.kind
 
-all_left : (problem : Problem) (old : List ℕ) → Leaves old old (header_text problem) (field_of problem ++ (parameters_of problem ++ (variables_of problem ++ order_of problem)))
+all_left : (problem : Problem) (old : List ℕ)
+    → Leaves old old (header_text problem) (field_of problem ++ (parameters_of problem ++ (variables_of problem ++ order_of problem)))
 all_left problem old = lines_left old (field_of problem) (parameters_of problem) (variables_of problem) (order_of problem)
 
-after_field : (problem : Problem) (old new : List ℕ) → new ≡ old ++ field_of problem → Leaves old new (header_text problem) (parameters_of problem ++ (variables_of problem ++ order_of problem))
+after_field : (problem : Problem) (old new : List ℕ) → new ≡ old ++ field_of problem
+    → Leaves old new (header_text problem) (parameters_of problem ++ (variables_of problem ++ order_of problem))
 after_field problem old new e = leaves_rest (field_of problem) (parameters_of problem ++ (variables_of problem ++ order_of problem)) (all_left problem old) e
 
 after_parameters : (problem : Problem) (old mid new : List ℕ) → mid ≡ old ++ field_of problem → new ≡ mid ++ parameters_of problem
@@ -30,7 +32,8 @@ pub returns-in_err-field_line : goal.returns-in_err-field_line
 returns-in_err-field_line c =
     let problem : Problem = c.args.problem.now in
     at_exit _ _ _ _ c.from_residual.ensures.0
-    (front_of_piece (field_of problem) (parameters_of problem ++ (variables_of problem ++ order_of problem)) (all_left problem c.args.out.now) c.in_err-field_line.ensures)
+    (front_of_piece (field_of problem) (parameters_of problem ++ (variables_of problem ++ order_of problem))
+    (all_left problem c.args.out.now) c.in_err-field_line.ensures)
 
 pub returns-in_err-names_line : goal.returns-in_err-names_line
 returns-in_err-names_line c =
@@ -48,7 +51,8 @@ returns-in_err-names_line-2 c =
     let variables : names_line (codes "variables") c.split_at.result.0.now ≡ variables_of problem = cc (c.split_at.ensures.front, c.as_slice.ensures) in
     at_exit _ _ _ _ c.from_residual-in_err-names_line-2.ensures.0
     (front_of_piece (variables_of problem) (order_of problem)
-    (after_parameters problem c.args.out.now _ _ c.in_ok-field_line.ensures (c.in_ok-names_line.ensures ∙ ap (λ (xs : List ℕ). c.field_line.new.out ++ xs) parameters))
+    (after_parameters problem c.args.out.now _ _ c.in_ok-field_line.ensures
+    (c.in_ok-names_line.ensures ∙ ap (λ (xs : List ℕ). c.field_line.new.out ++ xs) parameters))
     (subst (AppendsFront c.names_line.new.out c.names_line-2.new.out) variables c.in_err-names_line-2.ensures))
 
 pub returns : goal.returns
@@ -58,6 +62,7 @@ returns c =
     let variables : names_line (codes "variables") c.split_at.result.0.now ≡ variables_of problem = cc (c.split_at.ensures.front, c.as_slice.ensures) in
     ends _ _ (order_of problem)
     (leaves_rest (variables_of problem) (order_of problem)
-    (after_parameters problem c.args.out.now _ _ c.in_ok-field_line.ensures (c.in_ok-names_line.ensures ∙ ap (λ (xs : List ℕ). c.field_line.new.out ++ xs) parameters))
+    (after_parameters problem c.args.out.now _ _ c.in_ok-field_line.ensures
+    (c.in_ok-names_line.ensures ∙ ap (λ (xs : List ℕ). c.field_line.new.out ++ xs) parameters))
     (c.in_ok-names_line-2.ensures ∙ ap (λ (xs : List ℕ). c.names_line.new.out ++ xs) variables))
     c.order_line.ensures

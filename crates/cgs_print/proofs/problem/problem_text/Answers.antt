@@ -18,14 +18,16 @@ pub returns-in_err-body_text-clause-text : goal.returns-in_err-body_text-clause-
 returns-in_err-body_text-clause-text c =
     let problem : Problem = c.args.problem.now in
     at_exit _ _ _ _ c.from_residual-in_err-body_text.ensures.0
-    (front_of_piece (body_text problem) (codes "end\n") (leaves_rest (header_text problem) (body_text problem ++ codes "end\n") (all_left problem c.args.out.now) c.in_ok-header_text.ensures)
+    (front_of_piece (body_text problem) (codes "end\n")
+    (leaves_rest (header_text problem) (body_text problem ++ codes "end\n") (all_left problem c.args.out.now) c.in_ok-header_text.ensures)
     c.in_err-body_text.ensures)
 
 pub returns-clause-text : goal.returns-clause-text
 returns-clause-text c =
     let problem : Problem = c.args.problem.now in
     ends _ _ (codes "end\n")
-    (leaves_rest (body_text problem) (codes "end\n") (leaves_rest (header_text problem) (body_text problem ++ codes "end\n") (all_left problem c.args.out.now) c.in_ok-header_text.ensures)
+    (leaves_rest (body_text problem) (codes "end\n")
+    (leaves_rest (header_text problem) (body_text problem ++ codes "end\n") (all_left problem c.args.out.now) c.in_ok-header_text.ensures)
     c.in_ok-body_text.ensures)
     (extended _ _ _ _ c.extend_from_slice.ensures.ok c.extend_from_slice.ensures.err)
 

@@ -17,4 +17,5 @@ loop-piece-preserved c =
 
 pub returns : goal.returns
 returns c =
-    leaves_none (leaves_no_item (λ (piece : Bor (List ℕ)). piece.now) c.args.pieces.now c.loop-piece.piece-index [] c.loop-piece-test.false c.loop-piece.invariant)
+    leaves_none (leaves_no_item (λ (piece : Bor (List ℕ)). piece.now) c.args.pieces.now c.loop-piece.piece-index
+    [] c.loop-piece-test.false c.loop-piece.invariant)

@@ -1,0 +1,2 @@
+pub mod MonicLemmas
+pub mod LocateLemmas

@@ -1,0 +1,71 @@
+//! Tests of the variables' parts of leading monomials.
+
+ghost use Rattle.std.specs.Prelude.{◌≡◌, ◌<◌, length};
+ghost use Rattle.cgs_poly.specs.Polynomial.{IsRing, IsPoly, ArePolys};
+ghost use Rattle.cgs_report.specs.Standard.{leads_x, has_divisor};
+ghost use Rattle.cgs_report.specs.Box.{has_power, is_one};
+ghost use Rattle.cgs_report.specs.Walk.{lead_divides, lead_is_power};
+
+use cgs_exps::divides;
+use cgs_poly::{Poly, Ring};
+
+/// Whether a leading monomial divides m.
+pub(crate) fn has_divisor(ring: &Ring, basis: &[Poly], m: &[u16]) -> bool
+    requires ring { IsRing ring.now }
+    requires polys { ArePolys ring.now basis.now }
+    requires places { length m.now ≡ ring.now.variables }
+    ensures { result ≡ has_divisor (leads_x ring.now basis.now) m.now }
+{
+    for f in basis {
+        if lead_divides(ring, f, m) {
+            return true;
+        }
+    }
+    false
+}
+
+fn lead_divides(ring: &Ring, f: &Poly, m: &[u16]) -> bool
+    requires ring { IsRing ring.now }
+    requires poly { IsPoly ring.now f.now }
+    requires places { length m.now ≡ ring.now.variables }
+    ensures { result ≡ lead_divides ring.now m.now f.now }
+{
+    match f.lead_x(ring) {
+        Some(x) => divides(x, m),
+        None => false,
+    }
+}
+
+/// Whether a leading monomial is a power of the variable at a place, or 1.
+pub(crate) fn has_power(ring: &Ring, basis: &[Poly], place: usize) -> bool
+    requires ring { IsRing ring.now }
+    requires polys { ArePolys ring.now basis.now }
+    requires place { place < ring.now.variables }
+    ensures { result ≡ has_power place (leads_x ring.now basis.now) }
+{
+    for f in basis {
+        if lead_is_power(ring, f, place) {
+            return true;
+        }
+    }
+    false
+}
+
+fn lead_is_power(ring: &Ring, f: &Poly, place: usize) -> bool
+    requires ring { IsRing ring.now }
+    requires poly { IsPoly ring.now f.now }
+    requires place { place < ring.now.variables }
+    ensures { result ≡ lead_is_power ring.now place f.now }
+{
+    match f.lead_x(ring) {
+        Some(x) => is_one(&x[..place]) && is_one(&x[place + 1..]),
+        None => false,
+    }
+}
+
+/// Whether all exponents are 0.
+pub(crate) fn is_one(exponents: &[u16]) -> bool
+    ensures { result ≡ is_one exponents.now }
+{
+    exponents.iter().all(|e| *e == 0)
+}

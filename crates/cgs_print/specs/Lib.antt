@@ -1,3 +1,4 @@
 pub mod Printing
 pub mod History
 pub mod RoundTrip
+pub mod Locating

@@ -13,6 +13,10 @@ use Rattle.cgs_entry.specs.declared.entry.Entry.{Entry}
 use Rattle.cgs_entry.specs.declared.entry.EntryKind.{EntryKind}
 use Rattle.cgs_entry.specs.declared.entry.EntryKind.TheVariants.{Solved, Refused}
 use Rattle.cgs_entry.specs.Entries.{is_refused}
+use Rattle.cgs_report.specs.declared.entry.Findings.{Findings}
+use Rattle.cgs_report.specs.declared.standard.Standard.{Standard}
+use Rattle.cgs_report.specs.declared.standard.Standard.TheVariants.{NotFinite, Many, Count}
+use Rattle.cgs_report.specs.Report.{findings_of}
 use Rattle.cgs_problem.specs.declared.problem.Problem.{Problem}
 use Rattle.cgs_problem.specs.declared.fault.TextFault.{TextFault}
 use Rattle.cgs_problem.specs.Faults as faults
@@ -138,9 +142,29 @@ abbrev pub untested_line : Bool → List ℕ
 untested_line true = []
 untested_line false = codes "untested\n"
 
+-- the line of a keyword and a yes or a no
+abbrev pub answer_line : List ℕ → Bool → List ℕ
+answer_line keyword true = keyword ++ codes " yes\n"
+answer_line keyword false = keyword ++ codes " no\n"
+
+-- the line of the number of standard monomials
+abbrev pub standard_line : Standard → List ℕ
+standard_line NotFinite = codes "standard none\n"
+standard_line Many = codes "standard many\n"
+standard_line (Count count) = codes "standard " ++ decimal count ++ codes "\n"
+
+-- the lines of what is told of a basis
+abbrev pub findings_text : Findings → List ℕ
+findings_text findings =
+    answer_line (codes "solvable") findings.solvable ++ answer_line (codes "finite") findings.finite ++ standard_line findings.standard
+
+-- the lines of a basis under conditions that were tested to the end or not
+abbrev pub solved_text : Ring → List (List ℕ) → List (List Term) → Bool → List ℕ
+solved_text ring names basis tested = untested_line tested ++ polynomial_lines (codes "basis") ring names basis
+
 -- the lines of what was found
 abbrev pub found_text : Ring → List (List ℕ) → EntryKind → List ℕ
-found_text ring names (Solved basis tested) = untested_line tested ++ polynomial_lines (codes "basis") ring names basis
+found_text ring names (Solved basis tested) = solved_text ring names basis tested ++ findings_text (findings_of ring basis)
 found_text ring names (Refused cause) = []
 
 -- the lines of an entry

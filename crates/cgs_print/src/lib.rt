@@ -1,17 +1,20 @@
-//! Polynomials, problems, lists, histories and faults printed.
+//! Polynomials, problems, lists, located points, histories and faults printed.
 //!
 //! It promises that the canonical text is appended, or for want of memory a front of it, and that the text of a problem
-//! that some bytes spell spells it again. Below it stand problems and their reading as a definition (`cgs_problem`), and the
-//! events of a board (`cgs_board`). Read first: `polynomial_text` and `problem_text` (specs/Printing), `history_text`
-//! (specs/History), `ReadsBack` (specs/RoundTrip).
+//! that some bytes spell spells it again. Below it stand problems and their reading as a definition (`cgs_problem`), the
+//! search for a point (`cgs_locate`) and the events of a board (`cgs_board`). Read first: `polynomial_text` and
+//! `problem_text` (specs/Printing), `located_text` (specs/Locating), `history_text` (specs/History), `ReadsBack`
+//! (specs/RoundTrip).
 #![tactic(auto)]
 
 mod basis;
 mod fault;
+mod findings;
 mod history;
 mod laws;
 mod line;
 mod list;
+mod locating;
 mod polynomial;
 mod problem;
 mod push;
@@ -21,6 +24,7 @@ pub use fault::fault_text;
 pub use history::history_text;
 pub use laws::{printed_problems_read_back, spelled_problems_are_valid};
 pub use list::{list_text, path_text};
+pub use locating::located_text;
 pub use polynomial::poly_text;
 pub use problem::problem_text;
 

@@ -109,7 +109,7 @@ pub(crate) fn point_lines(points: &[Point], out: &mut Text) -> Result<(), AllocE
 }
 
 /// The line of a point, a space before each number.
-fn point_line(point: &Point, out: &mut Text) -> Result<(), AllocError>
+pub(crate) fn point_line(point: &Point, out: &mut Text) -> Result<(), AllocError>
     ensures { Prints result out.old out.new (point_line point.now) }
 {
     out.extend_from_slice(b"point")?;

@@ -6,15 +6,17 @@ ghost use Rattle.cgs_poly.specs.Polynomial.{IsRing, places, ArePolys};
 ghost use Rattle.cgs_poly.specs.Parameters.{IsCondition};
 ghost use Rattle.cgs_entry.specs.Entries.{IsEntry, IsFound, is_refused};
 ghost use Rattle.cgs_problem.specs.Problems.{IsProblem};
-ghost use Rattle.cgs_print.specs.Printing.{polynomial_lines, path_text, head_line, conditions_text, found_text, untested_line, entry_text, count_line, list_text, Prints};
+ghost use Rattle.cgs_print.specs.Printing.{path_text, head_line, conditions_text, found_text, solved_text, untested_line, entry_text, count_line, list_text, Prints};
 
 use crate::basis::cause_word;
+use crate::findings::findings_text;
 use crate::line::polynomial_lines;
 use crate::push::push_all;
 use cgs_entry::{Conditions, Entry, EntryKind, EntryList};
 use cgs_path::Path;
 use cgs_poly::{PolyList, Ring};
 use cgs_problem::{Problem, Text};
+use cgs_report::report;
 use itoa::Buffer;
 use std::alloc::AllocError;
 
@@ -61,11 +63,11 @@ fn entry_text(ring: &Ring, names: &[Text], entry: &Entry, out: &mut Text) -> Res
 {
     head_line(entry, out)?;
     conditions_text(ring, names, &entry.conditions, out)?;
-    found_text(ring, names, &entry.kind, out)
+    found_text(ring, names, entry, out)
 }
 
 /// The first line of an entry.
-fn head_line(entry: &Entry, out: &mut Text) -> Result<(), AllocError>
+pub(crate) fn head_line(entry: &Entry, out: &mut Text) -> Result<(), AllocError>
     ensures { Prints result out.old out.new (head_line entry.now) }
 {
     match entry.kind {
@@ -137,19 +139,17 @@ fn conditions_text(
 }
 
 /// The lines of what was found.
-fn found_text(
-    ring: &Ring,
-    names: &[Text],
-    kind: &EntryKind,
-    out: &mut Text,
-) -> Result<(), AllocError>
+fn found_text(ring: &Ring, names: &[Text], entry: &Entry, out: &mut Text) -> Result<(), AllocError>
     requires ring { IsRing ring.now }
     requires named { length names.now ≡ places ring.now }
-    requires found { IsFound ring.now kind.now }
-    ensures { Prints result out.old out.new (found_text ring.now names.now kind.now) }
+    requires found { IsFound ring.now entry.now.kind }
+    ensures { Prints result out.old out.new (found_text ring.now names.now entry.now.kind) }
 {
-    match kind {
-        EntryKind::Solved { basis, tested } => solved_text(ring, names, basis, *tested, out),
+    match &entry.kind {
+        EntryKind::Solved { basis, tested } => {
+            solved_text(ring, names, basis, *tested, out)?;
+            findings_text(report(ring, entry), out)
+        }
         EntryKind::Refused(_) => Ok(()),
     }
 }
@@ -165,7 +165,7 @@ fn solved_text(
     requires ring { IsRing ring.now }
     requires named { length names.now ≡ places ring.now }
     requires basis { ArePolys ring.now basis.now }
-    ensures { Prints result out.old out.new (untested_line tested ++ polynomial_lines (codes "basis") ring.now names.now basis.now) }
+    ensures { Prints result out.old out.new (solved_text ring.now names.now basis.now tested) }
 {
     untested_line(tested, out)?;
     polynomial_lines(b"basis", ring, names, basis.as_slice(), out)

@@ -14,7 +14,7 @@ use Rattle.cgs_problem.specs.Reading.{problem_spelled}
 use Rattle.cgs_print.specs.History.{history_text}
 use Rattle.cgs_split.specs.NodeRun.{node_of}
 use Rattle.cgs_words.specs.declared.plan.Command.{Command}
-use Rattle.cgs_words.specs.declared.plan.Command.TheVariants.{Check, Basis, Solve}
+use Rattle.cgs_words.specs.declared.plan.Command.TheVariants.{Check, Basis, Solve, Locate}
 use Rattle.cgs_words.specs.declared.plan.Plan.{Plan}
 use Rattle.cgs_words.specs.declared.plan.WordFault.{WordFault}
 use Rattle.cgs_program.specs.declared.status.Status.{Status}
@@ -24,8 +24,9 @@ use Rattle.cgs_program.specs.declared.reply.Halt.{Halt}
 use Rattle.cgs_program.specs.declared.reply.Halt.TheVariants as halt
 use Rattle.cgs_program.specs.declared.reply.Task.{Task}
 use Rattle.cgs_program.specs.declared.reply.Task.TheVariants as task
-use Rattle.cgs_program.specs.Due.{Got, nothing_read, whole, too_long, basis_answer, list_answer, status_of, generators_of, entries_within, root_within}
-use Rattle.cgs_program.specs.Due.{limits_of, answer_of, IsThe, IsListed, IsAnswer, IsReply, IsDueTo, IsDueFor, word_fault_text}
+use Rattle.cgs_program.specs.Due.{Got, nothing_read, whole, too_long, basis_answer, entries_answer, status_of, generators_of, entries_within, root_within}
+use Rattle.cgs_program.specs.Due.{limits_of, answer_of, asks_history, lacks_point, IsThe, IsListed, IsAnswer, IsServed, IsReply, IsDueTo, IsDueFor}
+use Rattle.cgs_program.specs.Due.{word_fault_text}
 use Rattle.cgs_program.specs.Run.{Took, TookSome, Settles, Writes, Ends, Finishes, Makes, Sets, ReadsTask, RepliesTo, Delivers}
 
 -- a status with which a text is written
@@ -54,9 +55,14 @@ answer_written plan problem text end a = along end (answer_of plan problem).end 
     by_command Check e = rw e tt
     by_command Basis e = rw e (basis_written problem (basis_run problem.ring (generators_of problem) plan.budget))
     by_command Solve e = rw e (list_written (list_any is_refused (entries_within (limits_of plan) problem)))
+    by_command Locate e = rw e (list_written (list_any is_refused (entries_within (limits_of plan) problem)))
+
+served_written : (lacks : Bool) (plan : Plan) (problem : Problem) (text : List ℕ) (end : Status) → IsServed lacks plan problem text end → IsWritten end
+served_written false plan problem text end a = answer_written plan problem text end a
+served_written true plan problem text end a = along end status.Text a.1 tt
 
 reply_written : (plan : Plan) (spelled : Result Problem TextFault) (text : List ℕ) (end : Status) → IsReply plan spelled text end → IsWritten end
-reply_written plan (Ok problem) text end a = answer_written plan problem text end a
+reply_written plan (Ok problem) text end a = served_written (lacks_point plan problem) plan problem text end a
 reply_written plan (Err fault) text end a = along end status.Text a.1 tt
 
 due_written : (plan : Result Plan WordFault) (got : Got) (text : List ℕ) (end : Status) → IsDueFor plan got text end → IsWritten end
@@ -121,7 +127,7 @@ read plan got a b (Ok (task.Solve problem)) t calm m =
 read plan got a b (Err halt.Memory) t calm m = (took_some got a b t, calm)
 read plan got a b (Err halt.Source) t calm m = absurd m
 
--- The list of the problem that was read was made.
+-- What is made of the entries of the problem that was read was made.
 pub made : (plan : Plan) (problem : Problem) (a b : Seen) (r : Result Reply Halt) → ReadsTask plan a b (Ok (task.Solve problem))
     → Makes r (IsListed plan problem) → RepliesTo plan a b r
 made plan problem a b (Ok reply) t m = t.3 reply.text reply.status m
@@ -145,9 +151,9 @@ pub delivered : (asked : Result Plan WordFault) (plan : Plan) (a b c d : Seen) (
     → Ends asked a b c d end
 delivered asked plan a b c d r end e m w = subst (λ (x : Result Plan WordFault). Ends x a b c d end) e (ended plan a b c d r end m w)
 
--- The history was put after a list.
-pub followed : (plan : Plan) (problem : Problem) (reply : Reply) (h : List Event) (r : Result Reply Halt) → plan.history ≡ true
-    → IsThe (list_answer problem (entries_within (limits_of plan) problem)) reply.text reply.status
+-- The history was put after a text.
+pub followed : (plan : Plan) (problem : Problem) (reply : Reply) (h : List Event) (r : Result Reply Halt) → asks_history plan ≡ true
+    → IsThe (entries_answer plan.command problem (entries_within (limits_of plan) problem)) reply.text reply.status
     → IsComplete node_of (root_within (limits_of plan) problem) plan.workers h
     → Makes r (λ text end. (text ≡ reply.text ++ history_text h) × (end ≡ reply.status)) → Makes r (IsListed plan problem)
 followed plan problem reply h (Ok made) asked list complete m =

@@ -1,5 +1,7 @@
--- What the text due of `basis` and of `solve` is, by the laws of basis runs and of nodes.
-use Rattle.std.proofs.Common.{◌≡◌, ◌⊎◌, ℕ, false, List, [], length, get_or, ◌<◌, Some, None, Result, Ok, Err, refl, sym, ◌∙◌, subst, inl, inr}
+-- What the text due of `basis`, of `solve` and of `locate` is, by the laws of basis runs and of nodes.
+use Rattle.std.proofs.Common.{◌≡◌, ◌⊎◌, ◌==◌, ℕ, Bool, true, false, List, [], ◌∷◌, length, get_or, ◌<◌, Some, None, Result, Ok, Err, refl, sym, ◌∙◌, subst, inl}
+use Rattle.std.proofs.Common.{inr, arith}
+use Rattle.std.specs.List.{AllByRecursion}
 use Rattle.std.specs.Io.KnownBytes.{Appends}
 use Rattle.cgs_io.specs.Seen.{Seen}
 use Rattle.cgs_poly.specs.Polynomial.{Term, IsPoly, IsCanonical}
@@ -8,6 +10,10 @@ use Rattle.cgs_divide.specs.AutoreductionRun.{ListRun, done, out_of_budget, out_
 use Rattle.cgs_algebra.specs.Groebner.{IsReduced, IsAscending}
 use Rattle.cgs_basis.specs.BasisRun.{basis_run}
 use Rattle.cgs_basis.proofs.BasisLemmas.{basis_reduced}
+use Rattle.cgs_point.specs.Points.{IsPoint}
+use Rattle.cgs_entry.specs.declared.entry.Entry.{Entry}
+use Rattle.cgs_entry.specs.Entries.{IsComprehensive}
+use Rattle.cgs_locate.proofs.LocateLemmas.{found_is_first, nowhere_outside, basis_serves}
 use Rattle.cgs_problem.specs.declared.problem.Problem.{Problem}
 use Rattle.cgs_problem.specs.declared.fault.TextFault.{TextFault}
 use Rattle.cgs_problem.specs.Problems.{IsProblem}
@@ -18,22 +24,24 @@ use Rattle.cgs_print.proofs.ValidLemmas.{spelled_problem}
 use Rattle.cgs_list.proofs.ListLemmas.{all_weaker}
 use Rattle.cgs_split.proofs.IdealLemmas.{each_at}
 use Rattle.cgs_system.proofs.Listing.{listed_comprehensive}
-use Rattle.cgs_words.specs.declared.plan.Command.TheVariants.{Basis, Solve}
+use Rattle.cgs_words.specs.declared.plan.Command.TheVariants.{Basis, Solve, Locate}
 use Rattle.cgs_words.specs.declared.plan.Plan.{Plan}
 use Rattle.cgs_words.specs.declared.plan.WordFault.{WordFault}
 use Rattle.cgs_words.specs.Words.{plan_of}
 use Rattle.cgs_program.specs.declared.status.Status.{Status}
 use Rattle.cgs_program.specs.declared.status.Status.TheVariants as status
-use Rattle.cgs_program.specs.Due.{Got, nothing_read, whole, too_long, answer_of, basis_answer, list_answer, generators_of, limits_of, entries_within}
-use Rattle.cgs_program.specs.Due.{asks_history, IsThe, IsWhole, IsAnswer, IsReply, IsDueTo, IsDueFor}
+use Rattle.cgs_program.specs.Due.{Got, nothing_read, whole, too_long, answer_of, basis_answer, list_answer, located_answer, generators_of, limits_of}
+use Rattle.cgs_program.specs.Due.{entries_within}
+use Rattle.cgs_program.specs.Due.{asks_history, lacks_point, IsServed, IsThe, IsWhole, IsAnswer, IsReply, IsDueTo, IsDueFor}
 use Rattle.cgs_program.specs.Run.{Took, Writes, Ends}
-use Rattle.cgs_program.specs.Promises.{HasRead, KeepsBasis, KeepsSystem}
+use Rattle.cgs_program.specs.Promises.{HasRead, IsPlaced, KeepsBasis, KeepsSystem, KeepsLocated}
 
 -- a text that is the answer for what was read
 record IsAnswered (plan : Plan) (a b c d : Seen) (end : Status) : Type 0 where
   problem : Problem
   read : HasRead a b problem
   text : List ℕ
+  pointed : lacks_point plan problem ≡ false
   answered : IsAnswer plan problem text end
   written : Appends c.bytes d.bytes text
 
@@ -45,13 +53,21 @@ module _ (plan : Plan) (a b c d : Seen) (end : Status) (answers : (end ≡ statu
   replied (whole bytes) text taken due written = by_spelled (problem_spelled bytes) refl
     where
       by_spelled : (r : Result Problem TextFault) → problem_spelled bytes ≡ r → IsAnswered plan a b c d end
-      by_spelled (Ok problem) e = record {
-        problem = problem;
-        read = record { bytes = bytes; taken = taken; spelled = e };
-        text = text;
-        answered = subst (λ (x : Result Problem TextFault). IsReply plan x text end) e due.1;
-        written = written;
-      }
+      by_spelled (Ok problem) e = by_point (lacks_point plan problem) refl
+        where
+          served : IsServed (lacks_point plan problem) plan problem text end
+          served = subst (λ (x : Result Problem TextFault). IsReply plan x text end) e due.1
+
+          by_point : (lacks : Bool) → lacks_point plan problem ≡ lacks → IsAnswered plan a b c d end
+          by_point true lacks = absurd (answers (subst (λ (x : Bool). IsServed x plan problem text end) lacks served).1)
+          by_point false stands = record {
+            problem = problem;
+            read = record { bytes = bytes; taken = taken; spelled = e };
+            text = text;
+            pointed = stands;
+            answered = subst (λ (x : Bool). IsServed x plan problem text end) stands served;
+            written = written;
+          }
       by_spelled (Err fault) e = absurd (answers (subst (λ (x : Result Problem TextFault). IsReply plan x text end) e due.1).1)
 
 answered : (words : List (List ℕ)) (plan : Plan) (a b c d : Seen) (end : Status) → plan_of words ≡ Ok plan → (end ≡ status.Done) ⊎ (end ≡ status.Partial)
@@ -75,12 +91,27 @@ of_basis plan problem e = rw e refl
 of_solve : (plan : Plan) (problem : Problem) → plan.command ≡ Solve → answer_of plan problem ≡ list_answer problem (entries_within (limits_of plan) problem)
 of_solve plan problem e = rw e refl
 
+of_locate : (plan : Plan) (problem : Problem) → plan.command ≡ Locate
+    → answer_of plan problem ≡ located_answer problem (entries_within (limits_of plan) problem)
+of_locate plan problem e = rw e refl
+
 -- whether a plan with a command asks for a history
 asks_of_basis : (plan : Plan) → plan.command ≡ Basis → asks_history plan ≡ false
 asks_of_basis plan e = rw e refl
 
 asks_of_solve : (plan : Plan) → plan.command ≡ Solve → asks_history plan ≡ plan.history
 asks_of_solve plan e = rw e refl
+
+asks_of_locate : (plan : Plan) → plan.command ≡ Locate → asks_history plan ≡ false
+asks_of_locate plan e = rw e refl
+
+-- `locate` is served where there is some point
+lacks_of_locate : (plan : Plan) (problem : Problem) → plan.command ≡ Locate → lacks_point plan problem ≡ (length problem.points == 0)
+lacks_of_locate plan problem e = rw e refl
+
+some_point : (points : List (List ℕ)) → (length points == 0) ≡ false → 0 < length points
+some_point [] e = absurd cc
+some_point (point ∷ points) e = omega arith
 
 -- the polynomials and the conditions that have to vanish are canonical
 generators_at : (problem : Problem) → IsProblem problem → (i : ℕ) → i < length (generators_of problem)
@@ -139,4 +170,39 @@ keeps_system words a b c d end h asks z =
       text = w.text;
       followed = wanted.0;
       written = w.written;
+    }
+
+-- where each point of a problem lies in a comprehensive list
+module _ (problem : Problem) (entries : List Entry) (valid : IsProblem problem)
+    (comprehensive : IsComprehensive problem.ring problem.zero problem.nonzero problem.polys entries) where
+  point_placed : (point : List ℕ) → IsPoint problem.ring point → IsPlaced problem entries point
+  point_placed point p = record {
+    nowhere = nowhere_outside problem.ring problem.zero problem.nonzero problem.polys entries point comprehensive p;
+    first = λ found e. found_is_first problem.ring entries point found e;
+    basis = λ found entry e at solved.
+        basis_serves problem.ring problem.zero problem.nonzero problem.polys entries point entry found valid.ring comprehensive p e at solved;
+  }
+
+  points_placed : AllByRecursion (IsPlaced problem entries) problem.points
+  points_placed = all_weaker (IsPoint problem.ring) (IsPlaced problem entries) problem.points valid.points point_placed
+
+pub keeps_located : (words : List (List ℕ)) (a b c d : Seen) (end : Status) → Ends (plan_of words) a b c d end → KeepsLocated words a b c d end
+keeps_located words a b c d end h asks z =
+    let w = answered words asks.plan a b c d end asks.planned z h in
+    let valid = spelled_problem w.read.bytes w.problem w.read.spelled in
+    let limits = limits_of asks.plan in
+    let entries = entries_within limits w.problem in
+    let comprehensive = listed_comprehensive w.problem limits entries valid refl in
+    let alone = subst (λ asked. IsWhole asked asks.plan w.problem (answer_of asks.plan w.problem) w.text end)
+    (asks_of_locate asks.plan asks.asked) w.answered in
+    let wanted = subst (λ x. IsThe x w.text end) (of_locate asks.plan w.problem asks.asked) alone in
+    record {
+      problem = w.problem;
+      read = w.read;
+      pointed = some_point w.problem.points (sym (lacks_of_locate asks.plan w.problem asks.asked) ∙ w.pointed);
+      entries = entries;
+      of_tree = refl;
+      placed = points_placed w.problem entries valid comprehensive;
+      status = wanted.1;
+      written = subst (λ text. Appends c.bytes d.bytes text) wanted.0 w.written;
     }

@@ -1,5 +1,5 @@
 -- The text that is due, and the status with which it is written.
-use Rattle.std.specs.Prelude.{◌≡◌, ℕ, Bool, true, false, List, ◌++◌, codes, Option, Some, None, Result, Ok, Err}
+use Rattle.std.specs.Prelude.{◌≡◌, ◌==◌, ℕ, Bool, true, false, List, ◌++◌, length, codes, Option, Some, None, Result, Ok, Err}
 use Rattle.std.specs.List.{list_any}
 use Rattle.cgs_poly.specs.Polynomial.{Term}
 use Rattle.cgs_divide.specs.AutoreductionRun.{ListRun, done, out_of_budget, out_of_degree}
@@ -19,7 +19,9 @@ use Rattle.cgs_problem.specs.declared.fault.TextFault.{TextFault}
 use Rattle.cgs_problem.specs.Reading.{problem_spelled}
 use Rattle.cgs_print.specs.Printing.{problem_text, basis_text, refusal_text, list_text, fault_text}
 use Rattle.cgs_print.specs.History.{history_text}
-use Rattle.cgs_words.specs.declared.plan.Command.TheVariants.{Check, Basis, Solve}
+use Rattle.cgs_print.specs.Locating.{located_text}
+use Rattle.cgs_words.specs.declared.plan.Command.{Command}
+use Rattle.cgs_words.specs.declared.plan.Command.TheVariants.{Check, Basis, Solve, Locate}
 use Rattle.cgs_words.specs.declared.plan.Plan.{Plan}
 use Rattle.cgs_words.specs.declared.plan.WordFault.{WordFault}
 use Rattle.cgs_words.specs.declared.plan.WordFault.TheVariants as word
@@ -80,6 +82,10 @@ basis_answer problem (out_of_degree left) = answer (refusal_text Degree) status.
 abbrev pub list_answer : Problem → List Entry → Answer
 list_answer problem entries = answer (list_text problem entries) (status_of (list_any is_refused entries))
 
+-- what `locate` answers where these are the entries
+abbrev pub located_answer : Problem → List Entry → Answer
+located_answer problem entries = answer (located_text problem entries) (status_of (list_any is_refused entries))
+
 abbrev pub limits_of : Plan → Limits
 limits_of plan = record { budget = plan.budget; depth = plan.depth }
 
@@ -98,6 +104,7 @@ answer_of plan problem =
       | Check ↦ answer (problem_text problem) status.Done
       | Basis ↦ basis_answer problem (basis_run problem.ring (generators_of problem) plan.budget)
       | Solve ↦ list_answer problem (entries_within (limits_of plan) problem)
+      | Locate ↦ located_answer problem (entries_within (limits_of plan) problem)
     ]
 
 -- the text and the status of an answer
@@ -106,7 +113,7 @@ IsThe wanted text end = (text ≡ wanted.text) × (end ≡ wanted.end)
 
 -- the plan asks for the history of the tree
 abbrev pub asks_history : Plan → Bool
-asks_history plan = elim plan.command [ Check ↦ false | Basis ↦ false | Solve ↦ plan.history ]
+asks_history plan = elim plan.command [ Check ↦ false | Basis ↦ false | Solve ↦ plan.history | Locate ↦ false ]
 
 -- After the first text comes, where it is asked, that of a history in which so many workers claim and give back each branch of a tree.
 abbrev pub IsFollowed : Bool → Case → ℕ → List ℕ → List ℕ → Type 0
@@ -117,17 +124,34 @@ IsFollowed true root workers first text = (h : List Event) × IsComplete node_of
 abbrev pub IsWhole : Bool → Plan → Problem → Answer → List ℕ → Status → Type 0
 IsWhole asked plan problem wanted text end = IsFollowed asked (root_within (limits_of plan) problem) plan.workers wanted.text text × (end ≡ wanted.end)
 
--- what `solve` answers: the list of the problem's tree, with a history of the tree after it where it is asked
+-- the answer that is made of entries: for `locate` where the points lie, else the list
+abbrev pub entries_answer : Command → Problem → List Entry → Answer
+entries_answer Locate problem entries = located_answer problem entries
+entries_answer Check problem entries = list_answer problem entries
+entries_answer Basis problem entries = list_answer problem entries
+entries_answer Solve problem entries = list_answer problem entries
+
+-- what `solve` and `locate` answer: that of the entries of the problem's tree, with a history of the tree after it where it is asked
 abbrev pub IsListed : Plan → Problem → List ℕ → Status → Type 0
-IsListed plan problem text end = IsWhole plan.history plan problem (list_answer problem (entries_within (limits_of plan) problem)) text end
+IsListed plan problem text end =
+    IsWhole (asks_history plan) plan problem (entries_answer plan.command problem (entries_within (limits_of plan) problem)) text end
 
 -- The status and the text of the list are a function of the plan and the problem; the history depends on the workers.
 abbrev pub IsAnswer : Plan → Problem → List ℕ → Status → Type 0
 IsAnswer plan problem text end = IsWhole (asks_history plan) plan problem (answer_of plan problem) text end
 
+-- the problem has no point, and the plan's command asks where its points lie
+abbrev pub lacks_point : Plan → Problem → Bool
+lacks_point plan problem = elim plan.command [ Check ↦ false | Basis ↦ false | Solve ↦ false | Locate ↦ length problem.points == 0 ]
+
+-- the answer for a problem, unless a point is lacking
+abbrev pub IsServed : Bool → Plan → Problem → List ℕ → Status → Type 0
+IsServed false plan problem text end = IsAnswer plan problem text end
+IsServed true plan problem text end = (text ≡ codes "fault line 0 no-point\n") × (end ≡ status.Text)
+
 -- the answer for what bytes spell
 abbrev pub IsReply : Plan → Result Problem TextFault → List ℕ → Status → Type 0
-IsReply plan (Ok problem) text end = IsAnswer plan problem text end
+IsReply plan (Ok problem) text end = IsServed (lacks_point plan problem) plan problem text end
 IsReply plan (Err fault) text end = (text ≡ fault_text fault) × (end ≡ status.Text)
 
 -- the problem that a command makes by itself, without reading; each of these reads

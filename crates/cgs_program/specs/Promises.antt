@@ -1,18 +1,23 @@
--- What the bytes written by `basis` and by `solve` are, in the words of the field: neither a run nor a unit stands here, and a tree only
--- to say that its list does not depend on the workers.
-use Rattle.std.specs.Prelude.{◌≡◌, ◌⊎◌, ℕ, List, Ok}
-use Rattle.std.specs.List.{list_any}
+-- What the bytes written by `basis`, by `solve` and by `locate` are, in the words of the field: neither a run nor a unit stands here, and a
+-- tree only to say that its list does not depend on the workers.
+use Rattle.std.specs.Prelude.{◌≡◌, ◌<◌, ◌⊎◌, ◌↔◌, ℕ, false, List, length, slice_get, Some, None, Ok}
+use Rattle.std.specs.List.{AllByRecursion, list_any}
 use Rattle.std.specs.Io.KnownBytes.{Appends}
 use Rattle.cgs_io.specs.Seen.{Seen}
 use Rattle.cgs_poly.specs.Polynomial.{Term}
 use Rattle.cgs_algebra.specs.Groebner.{IsReduced, IsAscending}
 use Rattle.cgs_entry.specs.declared.entry.Entry.{Entry}
+use Rattle.cgs_entry.specs.Conditions.{IsInRegion}
 use Rattle.cgs_entry.specs.Entries.{IsComprehensive, is_refused}
+use Rattle.cgs_locate.specs.declared.search.Located.{Located}
+use Rattle.cgs_locate.specs.Located.{located}
+use Rattle.cgs_locate.specs.Laws.{IsFirst, IsMonicBasisAt}
 use Rattle.cgs_problem.specs.declared.problem.Problem.{Problem}
 use Rattle.cgs_problem.specs.Reading.{problem_spelled}
 use Rattle.cgs_print.specs.Printing.{basis_text, list_text}
+use Rattle.cgs_print.specs.Locating.{located_text}
 use Rattle.cgs_words.specs.declared.plan.Command.{Command}
-use Rattle.cgs_words.specs.declared.plan.Command.TheVariants.{Basis, Solve}
+use Rattle.cgs_words.specs.declared.plan.Command.TheVariants.{Basis, Solve, Locate}
 use Rattle.cgs_words.specs.declared.plan.Plan.{Plan}
 use Rattle.cgs_words.specs.Words.{plan_of}
 use Rattle.cgs_program.specs.declared.status.Status.{Status}
@@ -54,6 +59,27 @@ pub record WritesSystem (plan : Plan) (source source_now sink sink_now : Seen) (
   pub followed : IsFollowed plan.history (root_within (limits_of plan) problem) plan.workers (list_text problem entries) text
   pub written : Appends sink.bytes sink_now.bytes text
 
+-- A point lies nowhere exactly where it violates the conditions of the problem. Else it lies in the first entry whose region has it, and
+-- unless that one is refused, the basis there is a monic minimal Gröbner basis of what the polynomials become.
+pub record IsPlaced (problem : Problem) (entries : List Entry) (point : List ℕ) : Type 0 where
+  pub nowhere : (located problem.ring point entries ≡ None) ↔ (¬ IsInRegion problem.ring problem.zero problem.nonzero point)
+  pub first : (found : Located) → located problem.ring point entries ≡ Some found → IsFirst problem.ring entries point found
+  pub basis : (found : Located) (entry : Entry) → located problem.ring point entries ≡ Some found → slice_get entries found.index ≡ Some entry
+      → is_refused entry ≡ false
+      → IsMonicBasisAt problem.ring point problem.polys found.basis
+
+-- The text of where the points lie was written, of which there are some: in the entries of the problem's tree, for every number of workers and
+-- every order in which they work. The status tells whether an entry is refused, also one in which no point lies.
+pub record WritesPlaces (plan : Plan) (source source_now sink sink_now : Seen) (end : Status) : Type 0 where
+  pub problem : Problem
+  pub read : HasRead source source_now problem
+  pub pointed : 0 < length problem.points
+  pub entries : List Entry
+  pub of_tree : entries ≡ entries_within (limits_of plan) problem
+  pub placed : AllByRecursion (IsPlaced problem entries) problem.points
+  pub status : end ≡ status_of (list_any is_refused entries)
+  pub written : Appends sink.bytes sink_now.bytes (located_text problem entries)
+
 -- what `basis` promises with status 0
 abbrev pub KeepsBasis : List (List ℕ) → Seen → Seen → Seen → Seen → Status → Type 0
 KeepsBasis words source source_now sink sink_now end = Asks Basis words → end ≡ status.Done → WritesBasis source source_now sink sink_now
@@ -62,3 +88,8 @@ KeepsBasis words source source_now sink sink_now end = Asks Basis words → end 
 abbrev pub KeepsSystem : List (List ℕ) → Seen → Seen → Seen → Seen → Status → Type 0
 KeepsSystem words source source_now sink sink_now end =
     (asks : Asks Solve words) → (end ≡ status.Done) ⊎ (end ≡ status.Partial) → WritesSystem asks.plan source source_now sink sink_now end
+
+-- what `locate` promises with the statuses 0 and 3
+abbrev pub KeepsLocated : List (List ℕ) → Seen → Seen → Seen → Seen → Status → Type 0
+KeepsLocated words source source_now sink sink_now end =
+    (asks : Asks Locate words) → (end ≡ status.Done) ⊎ (end ≡ status.Partial) → WritesPlaces asks.plan source source_now sink sink_now end

@@ -1,5 +1,5 @@
 -- How a run ends.
-use Rattle.std.specs.Prelude.{◌≡◌, ◌≤◌, ◌⊎◌, ℕ, ◌+◌, List, length, Some, None, Result, Ok, Err, IsOk}
+use Rattle.std.specs.Prelude.{◌≡◌, ◌≤◌, ◌⊎◌, ℕ, ◌+◌, false, List, length, Some, None, Result, Ok, Err, IsOk}
 use Rattle.std.specs.Io.KnownBytes.{Consumes, IsAtEnd, Keeps, Appends}
 use Rattle.cgs_io.specs.Causes.{Rose}
 use Rattle.cgs_io.specs.Seen.{Seen, IsCalm}
@@ -17,7 +17,7 @@ use Rattle.cgs_program.specs.declared.reply.Halt.TheVariants as halt
 use Rattle.cgs_program.specs.declared.reply.Task.{Task}
 use Rattle.cgs_program.specs.declared.reply.Task.TheVariants as task
 use Rattle.cgs_words.specs.Words.{plan_of}
-use Rattle.cgs_program.specs.Due.{Got, nothing_read, whole, too_long, limit, own_problem, IsListed, IsDueFor, IsAnswer}
+use Rattle.cgs_program.specs.Due.{Got, nothing_read, whole, too_long, limit, own_problem, lacks_point, IsListed, IsDueFor, IsAnswer}
 
 -- what was taken from the source
 abbrev pub Took : Got → Seen → Seen → Type 0
@@ -86,7 +86,7 @@ Ends plan source source_now sink sink_now end = Writes plan source source_now si
 abbrev pub IsRun : List (List ℕ) → Seen → Seen → Seen → Seen → Status → Type 0
 IsRun words source source_now sink sink_now end = Ends (plan_of words) source source_now sink sink_now end
 
--- What reading leaves of the source: a reply, or a problem whose list has to be the reply.
+-- What reading leaves of the source: a reply, or a problem of whose entries the reply has to be made.
 abbrev pub ReadsTask : Plan → Seen → Seen → Result Task Halt → Type 0
 ReadsTask plan before now (Ok (task.Ready reply)) = Settles (Ok plan) before now reply.text reply.status
 ReadsTask plan before now (Ok (task.Solve problem)) =
@@ -113,7 +113,7 @@ Makes (Ok reply) P = P reply.text reply.status
 Makes (Err halt.Memory) P = Unit {0}
 Makes (Err halt.Source) P = ⊥
 
--- A reply is ready as it should be, or is to be the list of a problem, unless memory was short.
+-- A reply is ready as it should be, or is to be made of the entries of a problem, unless memory was short.
 abbrev pub Sets : Result Task Halt → Plan → (List ℕ → Status → Type 0) → Type 0
 Sets (Ok (task.Ready reply)) plan P = P reply.text reply.status
 Sets (Ok (task.Solve problem)) plan P = IsProblem problem × ((text : List ℕ) (end : Status) → IsListed plan problem text end → P text end)
@@ -133,6 +133,7 @@ pub record Accepts (words : List (List ℕ)) (source source_now sink sink_now : 
   pub told : source.bytes ≡ Some bytes
   pub fits : length bytes ≤ limit
   pub spelled : problem_spelled bytes ≡ Ok problem
+  pub pointed : lacks_point plan problem ≡ false
   pub source_sound : Rose source.faults source_now.faults → ⊥
   pub sink_sound : Rose sink.faults sink_now.faults → ⊥
 

@@ -1,10 +1,10 @@
 //! The text that is due, and the status with which it is written.
 
-ghost use Rattle.std.specs.Prelude.{◌≡◌, ◌≤◌, length};
+ghost use Rattle.std.specs.Prelude.{◌≡◌, ◌≤◌, length, codes};
 ghost use Rattle.cgs_problem.specs.Problems.{IsProblem};
 ghost use Rattle.cgs_print.specs.Printing.{problem_text, fault_text};
 ghost use Rattle.cgs_program.specs.declared.status.Status.TheVariants.{Done, Text};
-ghost use Rattle.cgs_program.specs.Due.{answer as wanted, IsThe, IsAnswer, IsDueTo, whole, too_long, limit};
+ghost use Rattle.cgs_program.specs.Due.{answer as wanted, lacks_point, IsThe, IsAnswer, IsServed, IsDueTo, whole, too_long, limit};
 ghost use Rattle.cgs_program.specs.Run.{ReadsTask, Sets, Makes};
 
 use crate::basis::basis_reply;
@@ -55,7 +55,7 @@ pub(crate) enum Task {
     Solve(Problem),
 }
 
-/// Reads the source, and makes the text due, but for the list of a problem.
+/// Reads the source, and makes the text due, unless a problem has to be solved for it.
 pub(crate) fn read_task<S: Source>(alloc: Global, plan: Plan, source: &mut S) -> Result<Task, Halt>
     ensures { ReadsTask plan (S.seen source.old) (S.seen source.new) result }
 {
@@ -106,12 +106,45 @@ fn task_of_fault(alloc: Global, plan: Plan, fault: TextFault) -> Result<Task, Ha
 /// What a problem that was read asks for.
 fn task_for(alloc: Global, plan: Plan, problem: Problem) -> Result<Task, Halt>
     requires { IsProblem problem }
+    ensures { Sets result plan (IsServed (lacks_point plan problem) plan problem) }
+{
+    if lacks_point(plan, &problem) {
+        return Ok(Task::Ready(no_point(alloc)?));
+    }
+    task_for_whole(alloc, plan, problem)
+}
+
+/// Whether the problem has no point, and the command asks where its points lie.
+fn lacks_point(plan: Plan, problem: &Problem) -> bool
+    ensures { result ≡ lacks_point plan problem.now }
+{
+    match plan.command {
+        Command::Check | Command::Basis | Command::Solve => false,
+        Command::Locate => problem.points.len() == 0,
+    }
+}
+
+/// The reply where a point is lacking.
+fn no_point(alloc: Global) -> Result<Reply, Halt>
+    ensures { Makes result (λ text end. (text ≡ codes "fault line 0 no-point\n") × (end ≡ Text)) }
+{
+    let mut text = ItemList::new(alloc);
+    text.extend_from_slice(b"fault line 0 no-point\n")?;
+    Ok(Reply {
+        text,
+        status: Status::Text,
+    })
+}
+
+/// What a problem asks for that has all that the command needs.
+fn task_for_whole(alloc: Global, plan: Plan, problem: Problem) -> Result<Task, Halt>
+    requires { IsProblem problem }
     ensures { Sets result plan (IsAnswer plan problem) }
 {
     match plan.command {
         Command::Check => Ok(Task::Ready(checked(alloc, &problem)?)),
         Command::Basis => Ok(Task::Ready(basis_reply(alloc, plan.budget, &problem)?)),
-        Command::Solve => Ok(Task::Solve(problem)),
+        Command::Solve | Command::Locate => Ok(Task::Solve(problem)),
     }
 }
 

@@ -1,4 +1,4 @@
-//! The command `solve`.
+//! The commands `solve` and `locate`.
 
 ghost use Rattle.std.specs.Prelude.{◌≡◌, ◌<◌, ◌++◌};
 ghost use Rattle.std.specs.List.{AllByRecursion, list_any};
@@ -7,7 +7,7 @@ ghost use Rattle.cgs_entry.specs.Entries.{IsEntry, is_refused};
 ghost use Rattle.cgs_problem.specs.Problems.{IsProblem};
 ghost use Rattle.cgs_print.specs.History.{history_text};
 ghost use Rattle.cgs_split.specs.NodeRun.{node_of};
-ghost use Rattle.cgs_program.specs.Due.{entries_within, root_within, limits_of, list_answer, status_of, IsThe, IsListed};
+ghost use Rattle.cgs_program.specs.Due.{entries_within, root_within, limits_of, asks_history, entries_answer, list_answer, located_answer, status_of, IsThe, IsListed};
 ghost use Rattle.cgs_program.specs.Run.{Makes};
 
 use crate::reply::{Halt, Reply};
@@ -15,17 +15,17 @@ use crate::status::Status;
 use cgs_board::EventList;
 use cgs_entry::{Entry, EntryList};
 use cgs_list::ItemList;
-use cgs_print::{history_text, list_text};
+use cgs_print::{history_text, list_text, located_text};
 use cgs_problem::Problem;
 use cgs_split::Limits;
 use cgs_system::{Solution, solve, solve_alone};
-use cgs_words::Plan;
+use cgs_words::{Command, Plan};
 use cgs_worker::Gate;
 use std::alloc::Global;
 use std::sync::Wait;
 use std::thread::Threads;
 
-/// The entries of a problem by workers in threads, and their history where it is asked. It may wait.
+/// The reply that is made of the entries of a problem, by workers in threads. It may wait.
 pub(crate) fn solved<R: Threads + Wait + Sync, G: Gate + Sync>(
     rt: &R,
     alloc: Global,
@@ -39,7 +39,7 @@ pub(crate) fn solved<R: Threads + Wait + Sync, G: Gate + Sync>(
 {
     let limits = limits_of(plan);
     let solution = solve(rt, alloc, problem, &limits, plan.workers, gate)?;
-    list_reply(alloc, plan, problem, &solution)
+    found_reply(alloc, plan, problem, &solution)
 }
 
 /// The same by one worker, which does the work of all.
@@ -49,11 +49,11 @@ pub(crate) fn solved_alone(alloc: Global, plan: Plan, problem: &Problem) -> Resu
     ensures { Makes result (IsListed plan problem.now) }
 {
     let solution = solve_alone(alloc, problem, &limits_of(plan))?;
-    list_reply(alloc, plan, problem, &solution)
+    found_reply(alloc, plan, problem, &solution)
 }
 
 /// The reply with what was found of a problem.
-fn list_reply(
+fn found_reply(
     alloc: Global,
     plan: Plan,
     problem: &Problem,
@@ -65,15 +65,56 @@ fn list_reply(
     requires of_ring { AllByRecursion (IsEntry problem.now.ring) solution.now.entries }
     ensures { Makes result (IsListed plan problem.now) }
 {
-    let reply = listed(alloc, problem, &solution.entries)?;
-    if plan.history {
+    let reply = entries_reply(alloc, plan.command, problem, &solution.entries)?;
+    if asks_history(plan) {
         with_history(reply, &solution.history)
     } else {
         Ok(reply)
     }
 }
 
-/// The reply with these entries.
+/// Whether the plan asks for a history.
+fn asks_history(plan: Plan) -> bool
+    ensures { result ≡ asks_history plan }
+{
+    match plan.command {
+        Command::Solve => plan.history,
+        Command::Check | Command::Basis | Command::Locate => false,
+    }
+}
+
+/// The reply that is made of entries.
+fn entries_reply(
+    alloc: Global,
+    command: Command,
+    problem: &Problem,
+    entries: &EntryList,
+) -> Result<Reply, Halt>
+    requires problem { IsProblem problem.now }
+    requires entries { AllByRecursion (IsEntry problem.now.ring) entries.now }
+    ensures { Makes result (IsThe (entries_answer command problem.now entries.now)) }
+{
+    match command {
+        Command::Locate => located(alloc, problem, entries),
+        Command::Check | Command::Basis | Command::Solve => listed(alloc, problem, entries),
+    }
+}
+
+/// The reply that tells where the points of the problem lie among entries.
+fn located(alloc: Global, problem: &Problem, entries: &EntryList) -> Result<Reply, Halt>
+    requires problem { IsProblem problem.now }
+    requires entries { AllByRecursion (IsEntry problem.now.ring) entries.now }
+    ensures { Makes result (IsThe (located_answer problem.now entries.now)) }
+{
+    let mut text = ItemList::new(alloc);
+    located_text(alloc, problem, entries, &mut text)?;
+    Ok(Reply {
+        text,
+        status: status_of(entries.as_slice()),
+    })
+}
+
+/// The reply that lists entries.
 fn listed(alloc: Global, problem: &Problem, entries: &EntryList) -> Result<Reply, Halt>
     requires problem { IsProblem problem.now }
     requires entries { AllByRecursion (IsEntry problem.now.ring) entries.now }

@@ -21,13 +21,31 @@ poly a*x-1
 end
 ";
 
+/// The line where its slope is not 0, at two points.
+const LINE_AT_POINTS: &[u8] = b"field 7
+parameters a
+variables x
+order lex
+nonzero a
+poly a*x-1
+point 0
+point 3
+end
+";
+
 /// The system of the line, and the history of one worker, whatever the number asked.
 const LINE_WITH_HISTORY: &[u8] = b"segment 0
 nonzero a
 basis a*x+6
+solvable yes
+finite yes
+standard 1
 segment 1
 zero a
 basis 1
+solvable no
+finite yes
+standard 0
 segments 2 refused 0
 history 6
 claim 0 -
@@ -61,6 +79,8 @@ const SOLVE: &[&[u8]] = &[b"solve"];
 const SOLVE_WITHIN_ELEVEN: &[&[u8]] = &[b"solve", b"--budget", b"11"];
 
 const SOLVE_WITH_HISTORY: &[&[u8]] = &[b"solve", b"--history", b"--workers", b"64"];
+
+const LOCATE: &[&[u8]] = &[b"locate"];
 
 const SOLV: &[&[u8]] = &[b"solv"];
 
@@ -121,16 +141,23 @@ fn answers(rt: HostRuntime) -> Result<(), Fail> {
         (
             SOLVE,
             LINE,
-            b"segment 0\nnonzero a\nbasis a*x+6\nsegment 1\nzero a\nbasis 1\nsegments 2 refused 0\n",
+            b"segment 0\nnonzero a\nbasis a*x+6\nsolvable yes\nfinite yes\nstandard 1\nsegment 1\nzero a\nbasis 1\nsolvable no\nfinite yes\nstandard 0\nsegments 2 refused 0\n",
             Status::Done,
         ),
         (
             SOLVE_WITHIN_ELEVEN,
             LINE,
-            b"segment 0\nnonzero a\nbasis a*x+6\nrefused 1 budget\nzero a\nsegments 1 refused 1\n",
+            b"segment 0\nnonzero a\nbasis a*x+6\nsolvable yes\nfinite yes\nstandard 1\nrefused 1 budget\nzero a\nsegments 1 refused 1\n",
             Status::Partial,
         ),
         (SOLVE_WITH_HISTORY, LINE, LINE_WITH_HISTORY, Status::Done),
+        (
+            LOCATE,
+            LINE_AT_POINTS,
+            b"point 0\nnowhere\npoint 3\nsegment 0\nbasis x+2\npoints 2\n",
+            Status::Done,
+        ),
+        (LOCATE, LINE, b"fault line 0 no-point\n", Status::Text),
     ];
     for (words, input, written, wanted) in rows {
         let input = Vec::from_slice(alloc, input)?;
@@ -176,13 +203,15 @@ fn refuses_words_and_tells_what_failed(rt: HostRuntime) -> Result<(), Fail> {
 fn reads_up_to_the_limit(rt: HostRuntime) -> Result<(), Fail> {
     let alloc = rt.alloc();
     let rows = [
-        (1048576, b"fault line 2 end\n".as_slice()),
-        (1048577, b"fault line 0 long\n"),
+        (CHECK, 1048576, b"fault line 2 end\n".as_slice()),
+        (CHECK, 1048577, b"fault line 0 long\n"),
+        (LOCATE, 1048576, b"fault line 2 end\n"),
+        (LOCATE, 1048577, b"fault line 0 long\n"),
     ];
-    for (bytes, written) in rows {
+    for (words, bytes, written) in rows {
         let mut input = Vec::from_elem(alloc, b'#', bytes - 1)?;
         input.push(b'\n')?;
-        let (status, sink) = run(alloc, CHECK, input, NEVER, NEVER)?;
+        let (status, sink) = run(alloc, words, input, NEVER, NEVER)?;
         assert_eq!(rt; sink.written(), written);
         assert_eq!(rt; status, Status::Text);
     }

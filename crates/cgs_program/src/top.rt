@@ -3,7 +3,7 @@
 ghost use Rattle.std.specs.Prelude.{◌≡◌, ◌<◌};
 ghost use Rattle.cgs_program.specs.Due.{word_fault_text};
 ghost use Rattle.cgs_program.specs.Run.{IsRun, Completes, Finishes, RepliesTo, Delivers};
-ghost use Rattle.cgs_program.specs.Promises.{KeepsBasis, KeepsSystem};
+ghost use Rattle.cgs_program.specs.Promises.{KeepsBasis, KeepsSystem, KeepsLocated};
 
 use crate::reply::{Halt, Reply, Task, read_task};
 use crate::solve::{solved, solved_alone};
@@ -29,6 +29,7 @@ pub fn run<R: Threads + Wait + Sync, S: Source, K: Sink, G: Gate + Sync>(
     ensures complete { Completes words.now (S.seen source.old) (S.seen source.new) (K.seen sink.old) (K.seen sink.new) result }
     ensures basis { KeepsBasis words.now (S.seen source.old) (S.seen source.new) (K.seen sink.old) (K.seen sink.new) result }
     ensures system { KeepsSystem words.now (S.seen source.old) (S.seen source.new) (K.seen sink.old) (K.seen sink.new) result }
+    ensures located { KeepsLocated words.now (S.seen source.old) (S.seen source.new) (K.seen sink.old) (K.seen sink.new) result }
 {
     run_words(rt, alloc, words, source, sink, gate)
 }
@@ -44,6 +45,7 @@ pub fn run_alone<S: Source, K: Sink>(
     ensures complete { Completes words.now (S.seen source.old) (S.seen source.new) (K.seen sink.old) (K.seen sink.new) result }
     ensures basis { KeepsBasis words.now (S.seen source.old) (S.seen source.new) (K.seen sink.old) (K.seen sink.new) result }
     ensures system { KeepsSystem words.now (S.seen source.old) (S.seen source.new) (K.seen sink.old) (K.seen sink.new) result }
+    ensures located { KeepsLocated words.now (S.seen source.old) (S.seen source.new) (K.seen sink.old) (K.seen sink.new) result }
 {
     run_words_alone(alloc, words, source, sink)
 }

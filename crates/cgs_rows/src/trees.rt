@@ -181,7 +181,7 @@ const LISTS: &[ListRow<'static>] = &[
             budget: 12,
             depth: 64,
         },
-        list: "segment 0\nnonzero a\nbasis a*x+6\nsegment 1\nzero a\nbasis 1\nsegments 2 refused 0\n",
+        list: "segment 0\nnonzero a\nbasis a*x+6\nsolvable yes\nfinite yes\nstandard 1\nsegment 1\nzero a\nbasis 1\nsolvable no\nfinite yes\nstandard 0\nsegments 2 refused 0\n",
     },
     ListRow {
         ring: LINE,
@@ -190,7 +190,7 @@ const LISTS: &[ListRow<'static>] = &[
             budget: 11,
             depth: 64,
         },
-        list: "segment 0\nnonzero a\nbasis a*x+6\nrefused 1 budget\nzero a\nsegments 1 refused 1\n",
+        list: "segment 0\nnonzero a\nbasis a*x+6\nsolvable yes\nfinite yes\nstandard 1\nrefused 1 budget\nzero a\nsegments 1 refused 1\n",
     },
     ListRow {
         ring: LINE,
@@ -199,25 +199,25 @@ const LISTS: &[ListRow<'static>] = &[
             budget: 5,
             depth: 64,
         },
-        list: "segment 0\nnonzero a\nbasis 1\nsegment 1\nzero a\nuntested\nbasis x\nsegments 2 refused 0\n",
+        list: "segment 0\nnonzero a\nbasis 1\nsolvable no\nfinite yes\nstandard 0\nsegment 1\nzero a\nuntested\nbasis x\nsolvable yes\nfinite yes\nstandard 1\nsegments 2 refused 0\n",
     },
     ListRow {
         ring: TWO_PARAMETERS,
         lines: "poly a*x\npoly b*x\n",
         limits: AMPLE,
-        list: "segment 0\nnonzero b\nbasis b*x\nsegment 1.1\nzero b\nnonzero a\nbasis a*x\nsegment 1.2.2\nzero b\nzero a\nsegments 3 refused 0\n",
+        list: "segment 0\nnonzero b\nbasis b*x\nsolvable yes\nfinite yes\nstandard 1\nsegment 1.1\nzero b\nnonzero a\nbasis a*x\nsolvable yes\nfinite yes\nstandard 1\nsegment 1.2.2\nzero b\nzero a\nsolvable yes\nfinite no\nstandard none\nsegments 3 refused 0\n",
     },
     ListRow {
         ring: QUADRATIC,
         lines: "poly a*x^2+b*x+c\n",
         limits: AMPLE,
-        list: "segment 0\nnonzero a\nbasis a*x^2+b*x+c\nsegment 1.1\nzero a\nnonzero b\nbasis b*x+c\nsegment 1.2.0\nzero a\nzero b\nnonzero c\nbasis 1\nsegment 1.2.3\nzero c\nzero b\nzero a\nsegments 4 refused 0\n",
+        list: "segment 0\nnonzero a\nbasis a*x^2+b*x+c\nsolvable yes\nfinite yes\nstandard 2\nsegment 1.1\nzero a\nnonzero b\nbasis b*x+c\nsolvable yes\nfinite yes\nstandard 1\nsegment 1.2.0\nzero a\nzero b\nnonzero c\nbasis 1\nsolvable no\nfinite yes\nstandard 0\nsegment 1.2.3\nzero c\nzero b\nzero a\nsolvable yes\nfinite no\nstandard none\nsegments 4 refused 0\n",
     },
     ListRow {
         ring: QUADRATIC,
         lines: "poly a*x^2+b*x+c\n",
         limits: LEVEL_ONE,
-        list: "segment 0\nnonzero a\nbasis a*x^2+b*x+c\nsegment 1.1\nzero a\nnonzero b\nbasis b*x+c\nrefused 1.2 depth\nzero a\nzero b\nsegments 2 refused 1\n",
+        list: "segment 0\nnonzero a\nbasis a*x^2+b*x+c\nsolvable yes\nfinite yes\nstandard 2\nsegment 1.1\nzero a\nnonzero b\nbasis b*x+c\nsolvable yes\nfinite yes\nstandard 1\nrefused 1.2 depth\nzero a\nzero b\nsegments 2 refused 1\n",
     },
 ];
 

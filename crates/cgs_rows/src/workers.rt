@@ -21,19 +21,31 @@ const WORDS: &[&[u8]] = &[b"solve", b"--workers", b"2", b"--history"];
 const FRONT: &str = "segment 0
 nonzero a
 basis a*x^2+b*x+c
+solvable yes
+finite yes
+standard 2
 segment 1.1
 zero a
 nonzero b
 basis b*x+c
+solvable yes
+finite yes
+standard 1
 segment 1.2.0
 zero a
 zero b
 nonzero c
 basis 1
+solvable no
+finite yes
+standard 0
 segment 1.2.3
 zero c
 zero b
 zero a
+solvable yes
+finite no
+standard none
 segments 4 refused 0
 history 20
 ";

@@ -11,7 +11,7 @@ use Rattle.cgs_words.specs.declared.options.Limit.{Limit}
 use Rattle.cgs_words.specs.declared.options.Limit.TheVariants.{Workers, Budget, Depth}
 use Rattle.cgs_words.specs.declared.options.Options.{Options}
 use Rattle.cgs_words.specs.declared.plan.Command.{Command}
-use Rattle.cgs_words.specs.declared.plan.Command.TheVariants.{Check, Basis, Solve}
+use Rattle.cgs_words.specs.declared.plan.Command.TheVariants.{Check, Basis, Solve, Locate}
 use Rattle.cgs_words.specs.declared.plan.Plan.{Plan}
 use Rattle.cgs_words.specs.declared.plan.WordFault.{WordFault}
 use Rattle.cgs_words.specs.declared.plan.WordFault.TheVariants as fault
@@ -85,7 +85,8 @@ command_of word =
     if bytes_eq word (codes "check") then Ok Check
     else (if bytes_eq word (codes "basis") then Ok Basis
     else (if bytes_eq word (codes "solve") then Ok Solve
-    else Err fault.Command))
+    else (if bytes_eq word (codes "locate") then Ok Locate
+    else Err fault.Command)))
 
 abbrev pub usual_workers : ℕ
 usual_workers = 1

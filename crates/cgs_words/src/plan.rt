@@ -9,6 +9,8 @@ pub enum Command {
     Basis,
     /// Its comprehensive Gröbner system is printed.
     Solve,
+    /// For each of its points the entry of that system is printed in which it lies, and the basis there.
+    Locate,
 }
 
 /// A command and the limits that it is run within.

@@ -54,6 +54,8 @@ fn plans(rt: HostRuntime) -> Result<(), Fail> {
             Ok(plan(Command::Basis, 1000000000000, 1)),
         ),
         ("solve --depth 2", Ok(plan(Command::Solve, 10000000, 2))),
+        ("locate --depth 2", Ok(plan(Command::Locate, 10000000, 2))),
+        ("locates", Err(WordFault::Command)),
         ("solve --budget 1000000000001", Err(WordFault::Value)),
         ("solves", Err(WordFault::Command)),
         ("check --budget 0", Err(WordFault::Value)),

@@ -36,6 +36,8 @@ fn read_command(word: &[u8]) -> Result<Command, WordFault>
         Ok(Command::Basis)
     } else if word == b"solve".as_slice() {
         Ok(Command::Solve)
+    } else if word == b"locate".as_slice() {
+        Ok(Command::Locate)
     } else {
         Err(WordFault::Command)
     }

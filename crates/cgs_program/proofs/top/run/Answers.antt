@@ -1,5 +1,5 @@
 use Rattle.cgs_program.proofs.Completing.{completes}
-use Rattle.cgs_program.proofs.Promising.{keeps_basis, keeps_system}
+use Rattle.cgs_program.proofs.Promising.{keeps_basis, keeps_system, keeps_located}
 use Rattle.cgs_program.proofs.top.run.Goals as goal
 
 pub returns-clause-complete : goal.returns-clause-complete
@@ -21,4 +21,11 @@ returns-clause-system g c =
     let source = g.S.Source.seen in
     let sink = g.K.Sink.seen in
     keeps_system c.args.words.now (source c.args.source.now) (source c.run_words.new.source) (sink c.args.sink.now)
+    (sink c.run_words.new.sink) c.run_words.result c.run_words.ensures
+
+pub returns-clause-located : goal.returns-clause-located
+returns-clause-located g c =
+    let source = g.S.Source.seen in
+    let sink = g.K.Sink.seen in
+    keeps_located c.args.words.now (source c.args.source.now) (source c.run_words.new.source) (sink c.args.sink.now)
     (sink c.run_words.new.sink) c.run_words.result c.run_words.ensures

@@ -17,12 +17,14 @@ systems = [
     ("linear-two-rows", "a b c d e f", "x y", "lex", ["a*x+b*y-e", "c*x+d*y-f"]),
     ("linear-diagonal", "a b c d e", "x y z", "lex", ["a*x+y+z-d", "x+b*y+z-e", "x+y+c*z-1"]),
     ("linear-band", "a b c d", "x y z", "lex", ["a*x+b*y+c*z-1", "b*x+a*y+d*z", "c*x+d*y+a*z"]),
+    ("linear-symmetric", "a b c d e", "x y z", "lex", ["a*x+b*y+c*z-1", "b*x+a*y+d*z-e", "c*x+d*y+a*z"]),
     # double roots, and common roots
     ("cubic-free", "a b c d", "x", "lex", ["a*x^3+b*x^2+c*x+d", "3*a*x^2+2*b*x+c"]),
     ("quartic", "a b c", "x", "lex", ["x^4+a*x^2+b*x+c", "4*x^3+2*a*x+b"]),
     ("two-quadratics", "a b c d", "x", "lex", ["a*x^2+b*x+c", "x^2+d*x+1"]),
     # curves
     ("singular-cubic-curve", "a b", "x y", "lex", ["y^2-x^3-a*x-b", "3*x^2+a", "2*y"]),
+    ("conic-and-parabola", "a b c d e f", "x y", "grevlex", ["a*x^2+b*x*y+c*y-1", "d*x^2+e*y+f"]),
     ("conic-and-line", "a b c d", "x y", "lex", ["a*x^2+b*y^2-1", "c*x+d*y-1"]),
 ]
 

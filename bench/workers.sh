@@ -10,7 +10,7 @@ PYTHONPATH=$here python3 -B - "$here/../crates/cgs/out/cgs" "$@" <<'PY'
 import sys
 from systems import text
 from timed import Run
-program, picked = sys.argv[1], sys.argv[2:] or ["linear-two-rows", "linear-band", "distances-space"]
+program, picked = sys.argv[1], sys.argv[2:] or ["conic-and-parabola", "linear-symmetric", "linear-band"]
 counts = [1, 2, 4, 8]
 
 def least(name, count):

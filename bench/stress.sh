@@ -72,7 +72,7 @@ def fault(what, ended):
     faults += 1
     print("%s: status %s, %d bytes" % (what, ended.status, len(ended.output)), flush=True)
 
-for name, given in [("small", small), ("large", text("linear-two-rows"))]:
+for name, given in [("small", small), ("large", text("linear-band"))]:
     wanted = run(1, given)
     for i in range(times):
         count = i % 16 + 1

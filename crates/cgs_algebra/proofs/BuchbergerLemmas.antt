@@ -25,6 +25,7 @@ use Rattle.cgs_algebra.proofs.RepresentationLemmas.{represented_one, total_diffe
 use Rattle.cgs_algebra.proofs.RepresentationLemmas.{represented_zero_at}
 use Rattle.cgs_poly.proofs.ProductLemmas.{total_multiple}
 use Rattle.cgs_field.proofs.ModularLemmas.{mod_add, mod_mul, mod_gather}
+use Rattle.cgs_algebra.proofs.PlaceLemmas.{canonical_at, monic_at, lead_at_place}
 
 -- sums in another order
 
@@ -215,8 +216,8 @@ module _ (ring : Ring) (G : List (List Term)) (pos : 0 < ring.modulus) (ok : Are
       let c : ℕ = t.top.coefficient in
       let one : total (indicator m) (multiple_of t.top) ≡ c =
       subst (λ n. total (indicator n) (multiple_of t.top) ≡ c) t.leads
-      (multiple_lead ring c t.top.monomial (at t.top.place) t.long (ok.canonical t.top.place t.place)
-      ∙ (ap (λ n. c * n) (ok.monic t.top.place t.place) ∙ mul-one c)) in
+      (multiple_lead ring c t.top.monomial (at t.top.place) t.long (canonical_at ring G ok.canonical t.top.place t.place)
+      ∙ (ap (λ n. c * n) (monic_at G ok.monic t.top.place t.place) ∙ mul-one c)) in
       let s : total (indicator m) (multiple_of t.top ++ t.rest) ≡ c + total (indicator m) t.rest =
       total_append (indicator m) (multiple_of t.top) t.rest ∙ ap (λ n. n + total (indicator m) t.rest) one in
       let z : total (indicator m) t.rest % ring.modulus ≡ 0 % ring.modulus = represented_zero_at ring G pos ok m t.rest t.low ∙ sym (zero-mod ring.modulus) in
@@ -250,12 +251,10 @@ module _ (ring : Ring) (G : List (List Term)) (pos : 0 < ring.modulus) (ok : Are
           t.low)
       by_coefficient t false e =
           let nz = eqb-false (t.top.coefficient % ring.modulus) 0 e in
-          let l : leading_monomial f ≡ m = lead_is m ks lm h u f k a (λ z. nz (sym (a.under (indicator m) ∙ top_coefficient m (combined G ks) t) ∙ z)) in (
-            t.top.place,
-            t.place,
-            rw l (subst (λ n. divides (leading_monomial_at G t.top.place) n ≡ true) t.leads
-                (divides_product t.top.monomial (leading_monomial_at G t.top.place))),
-          )
+          let l : leading_monomial f ≡ m = lead_is m ks lm h u f k a (λ z. nz (sym (a.under (indicator m) ∙ top_coefficient m (combined G ks) t) ∙ z)) in
+          lead_at_place G (leading_monomial f) t.top.place t.place
+          (rw l (subst (λ n. divides (leading_monomial_at G t.top.place) n ≡ true) t.leads
+          (divides_product t.top.monomial (leading_monomial_at G t.top.place))))
 
       by_top : IsRepresentedBelow ring G m (combined G ks) ⊎ HasTop m (combined G ks) → SomeLeadDivides G (leading_monomial f)
       by_top (inl low) = down (represented_alike a low)

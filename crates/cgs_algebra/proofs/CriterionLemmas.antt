@@ -19,6 +19,7 @@ use Rattle.cgs_algebra.proofs.RepresentationLemmas.{IsRepresentedBelow, represen
 use Rattle.cgs_algebra.proofs.RepresentationLemmas.{either_represented}
 use Rattle.cgs_poly.proofs.ProductLemmas.{total_multiple}
 use Rattle.cgs_field.proofs.ModularLemmas.{mod_add, mod_cancel, mod_opposite}
+use Rattle.cgs_algebra.proofs.PlaceLemmas.{canonical_at, monic_at}
 
 -- the chain criterion
 
@@ -160,8 +161,8 @@ module _ (ring : Ring) (G : List (List Term)) (i j : ℕ) (pos : 0 < ring.modulu
   from_tails : (x y : Term) (f g : List Term) → x ∷ f ≡ left → y ∷ g ≡ right
       → lcm x.exponents y.exponents ≡ product x.exponents y.exponents → HasLcmRepresentation ring G i j
   from_tails x y f g ef eg e =
-      let cf : IsCanonical ring (x ∷ f) = subst (λ q. IsCanonical ring q) (sym ef) (ok.canonical i hi) in
-      let cg : IsCanonical ring (y ∷ g) = subst (λ q. IsCanonical ring q) (sym eg) (ok.canonical j hj) in
+      let cf : IsCanonical ring (x ∷ f) = subst (λ q. IsCanonical ring q) (sym ef) (canonical_at ring G ok.canonical i hi) in
+      let cg : IsCanonical ring (y ∷ g) = subst (λ q. IsCanonical ring q) (sym eg) (canonical_at ring G ok.canonical j hj) in
       let ks : List Summand = product_summands 1 f j in
       let ls : List Summand = product_summands (ring.modulus - 1) g i in
       let a : x.exponents ≡ leading_monomial_at G i = ap leading_monomial ef in
@@ -200,8 +201,8 @@ module _ (ring : Ring) (G : List (List Term)) (i j : ℕ) (pos : 0 < ring.modulu
           ap (total w) (combined_append G ks ls)
           ∙ (total_append w (combined G ks) (combined G ls)
           ∙ cc (total_product_summands w G 1 f j, one-mul P, total_product_summands w G (ring.modulus - 1) g i)) in
-          let cx : x.coefficient ≡ 1 = ap leading_coefficient ef ∙ ok.monic i hi in
-          let cy : y.coefficient ≡ 1 = ap leading_coefficient eg ∙ ok.monic j hj in
+          let cx : x.coefficient ≡ 1 = ap leading_coefficient ef ∙ monic_at G ok.monic i hi in
+          let cy : y.coefficient ≡ 1 = ap leading_coefficient eg ∙ monic_at G ok.monic j hj in
           let t = tails_difference w ring x y f g pos cx cy in
           let d : s_terms ring left right ≡ difference ring y.exponents (x ∷ f) x.exponents (y ∷ g) =
           subst (λ k. s_terms ring k right ≡ difference ring y.exponents (x ∷ f) x.exponents (y ∷ g)) ef
@@ -209,7 +210,7 @@ module _ (ring : Ring) (G : List (List Term)) (i j : ℕ) (pos : 0 < ring.modulu
           ap (λ n. total w n % ring.modulus) d ∙ (t ∙ (cc (ef, eg) ∙ ap (λ n. n % ring.modulus) (sym s)))
 
   pub coprime_criterion : IsTrue (coprime (leading_monomial_at G i) (leading_monomial_at G j)) → HasLcmRepresentation ring G i j
-  coprime_criterion h = by_members left right refl refl (ok.monic i hi) (ok.monic j hj)
+  coprime_criterion h = by_members left right refl refl (monic_at G ok.monic i hi) (monic_at G ok.monic j hj)
     where
       by_members : (f g : List Term) → f ≡ left → g ≡ right → leading_coefficient left ≡ 1 → leading_coefficient right ≡ 1 → HasLcmRepresentation ring G i j
       by_members [] g ef eg cf cg = absurd (monic_not_empty left cf (sym ef))

@@ -1,12 +1,14 @@
 -- The members of a list with variables, and what a minimal Dickson basis of them has of the list.
-use Rattle.std.proofs.Common.{ℕ, suc, zero, ◌≡◌, ◌<◌, Bool, true, false, cond, List, [], ◌∷◌, length, get_or, refl, sym, ◌∙◌, subst, arith}
-use Rattle.std.specs.List.{AllByRecursion}
+use Rattle.std.proofs.Common.{ℕ, suc, zero, ◌≡◌, ◌<◌, Bool, true, false, cond, List, [], ◌∷◌, length, get_or, refl, ◌∙◌, subst, arith}
+use Rattle.std.specs.List.{AllByRecursion, Contains}
+use Rattle.cgs_list.proofs.ListLemmas.{all_at_place}
 use Rattle.cgs_exps.specs.Monomial.{divides}
 use Rattle.cgs_poly.specs.declared.ring.Ring.{Ring}
 use Rattle.cgs_poly.specs.Polynomial.{Term}
 use Rattle.cgs_poly.specs.Parameters.{has_no_variables, HasNoVariables, lead_x}
-use Rattle.cgs_algebra.specs.Stability.{parametric_members, other_members, IsMinimalDicksonBasis}
+use Rattle.cgs_algebra.specs.Stability.{parametric_members, other_members, SomeLeadXDivides, IsMinimalDicksonBasis}
 use Rattle.cgs_poly.proofs.ParameterLemmas.{tested_free, free_tested}
+use Rattle.cgs_algebra.proofs.PlaceLemmas.{place_of_member, lead_x_place}
 
 -- a place of the second list has what stands at a place of the first
 abbrev pub FoundIn : List (List Term) → List Term → Type 0
@@ -48,16 +50,17 @@ module _ (ring : Ring) (M G : List (List Term)) (dickson : IsMinimalDicksonBasis
   -- its members are members of G with variables
   pub dickson_found : (j : ℕ) → j < length M → FoundIn G (get_or M j [])
   dickson_found j l =
-      let k = dickson.members j l in
+      let k = place_of_member (other_members ring G) (get_or M j []) (all_at_place (Contains (other_members ring G)) [] M dickson.members j l) in
       let h = (other_found ring G k.0 k.1).0 in
-      (h.0, h.1, h.2 ∙ sym k.2)
+      (h.0, h.1, h.2 ∙ k.2)
 
   -- the variables' part of each lead is divided by that of one of its members
   pub dickson_divides : (i : ℕ) → i < length G → (HasNoVariables ring (get_or G i []) → ⊥)
       → (j : ℕ) × (j < length M) × (divides (lead_x ring (get_or M j [])) (lead_x ring (get_or G i [])) ≡ true)
   dickson_divides i l n =
       let k = found_other ring G i l n in
-      let j = dickson.divided k.0 k.1 in
+      let some = all_at_place (λ g. SomeLeadXDivides ring M (lead_x ring g)) [] (other_members ring G) dickson.divided k.0 k.1 in
+      let j = lead_x_place ring M (lead_x ring (get_or (other_members ring G) k.0 [])) some in
       (j.0, j.1, subst (λ f. divides (lead_x ring (get_or M j.0 [])) (lead_x ring f) ≡ true) k.2 j.2)
 
 -- each member in the parameters alone is there

@@ -28,6 +28,7 @@ use Rattle.cgs_algebra.proofs.FieldLemmas.{IsOpposite, opposite_of_one}
 use Rattle.cgs_algebra.proofs.ReductionLemmas.{cofactor, cofactor_length, cofactor_product, remainder, remainder_of_ring, remainder_below, remainder_alike}
 use Rattle.cgs_algebra.proofs.PointLemmas.{power_weight}
 use Rattle.cgs_algebra.proofs.VanishingLemmas.{Vanishes, multiple_vanishes, vanishing_added, free_vanishes, free_by_lead}
+use Rattle.cgs_algebra.proofs.PlaceLemmas.{canonical_at, monic_at, member_at, lead_place}
 
 -- a place of a list has its member in one of the two parts
 
@@ -152,8 +153,9 @@ module _ (ring : Ring) (a : List ℕ) (pos : 0 < ring.modulus) (F G : List (List
   -- some lead of the basis divides the lead of each member of the ideal
   claim_step : (m : List ℕ) → length m ≡ places ring → Lower m → Claim m
   claim_step m lm lower c f poly free inside =
-      let i = basis.leads (term c m ∷ f) poly inside (λ e. cc) in
-      by_member m lower c f poly free inside (get_or G i.0 []) (monic.canonical i.0 i.1) (monic.monic i.0 i.1) (basis.members i.0 i.1) i.2
+      let i = lead_place G m (basis.leads (term c m ∷ f) poly inside (λ e. cc)) in
+      by_member m lower c f poly free inside (get_or G i.0 []) (canonical_at ring G monic.canonical i.0 i.1) (monic_at G monic.monic i.0 i.1)
+      (member_at ring F G basis.members i.0 i.1) i.2
       (parametric_at ring (λ g. value_at ring a g ≡ 0) G zeros i.0 i.1)
 
   -- a value is a sum of powers

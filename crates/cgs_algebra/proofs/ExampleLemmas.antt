@@ -1,10 +1,10 @@
 -- The reduced Gröbner basis of x^2 - 1 and x*y - 1 modulo 7, checked by the criterion, and a list that is none.
-use Rattle.std.proofs.Common.{ℕ, zero, suc, ◌≡◌, ◌<◌, true, List, [], ◌∷◌, length, get_or, refl, arith}
+use Rattle.std.proofs.Common.{ℕ, zero, suc, ◌≡◌, ◌<◌, true, IsTrue, List, [], ◌∷◌, length, get_or, refl, arith}
 use Rattle.cgs_exps.specs.Monomial.{divides}
 use Rattle.cgs_order.specs.TermOrder.{key, compared}
 use Rattle.cgs_poly.specs.declared.ring.Ring.{Ring}
-use Rattle.cgs_poly.specs.Polynomial.{Term, IsOfRing, IsCanonical, canonical, SameCoefficients}
-use Rattle.cgs_poly.specs.Product.{leading_coefficient}
+use Rattle.cgs_poly.specs.Polynomial.{Term, IsOfRing, canonical, SameCoefficients}
+use Rattle.cgs_poly.specs.Product.{leading_monomial}
 use Rattle.cgs_poly.proofs.SumLemmas.{Alike, alike_back, alike_trans, alike_same, coefficients_from_alike}
 use Rattle.cgs_poly.proofs.CanonicalLemmas.{canonical_alike}
 use Rattle.cgs_algebra.specs.Combination.{summand, IsMember}
@@ -14,6 +14,7 @@ use Rattle.cgs_algebra.specs.Examples.{seven, x_squared_less_one, xy_less_one, x
 use Rattle.cgs_algebra.specs.Examples.{ZeroTermIsRefused}
 use Rattle.cgs_algebra.proofs.GroebnerLemmas.{complete_groebner}
 use Rattle.cgs_algebra.proofs.CriterionLemmas.{coprime_criterion}
+use Rattle.cgs_algebra.proofs.PlaceLemmas.{of_two_places}
 
 -- lists of terms with one canonical list have the same coefficients
 same_from_canonical : (ring : Ring) (f g : List Term) → 0 < ring.modulus → IsOfRing ring f → IsOfRing ring g → canonical ring f ≡ canonical ring g
@@ -61,12 +62,7 @@ xy_less_one_member = record {
   sum = same_from_canonical seven _ _ positive (refl, (refl, tt)) (refl, (refl, (refl, (refl, tt)))) refl;
 }
 
--- what holds at the places 0 and 1 holds at each place of a list of two
-at_two : (P : ℕ → Type 0) → P 0 → P 1 → (i : ℕ) → i < 2 → P i
-at_two P a b zero h = a
-at_two P a b (suc zero) h = b
-at_two P a b (suc (suc i)) h = absurd (omega arith)
-
+-- what holds of the places 0 and 1, both ways, holds of each two places of a list of two
 at_pairs : (P : ℕ → ℕ → Type 0) → P 0 1 → P 1 0 → (i j : ℕ) → i < 2 → j < 2 → ¬ (i ≡ j) → P i j
 at_pairs P a b zero zero h k n = absurd (n refl)
 at_pairs P a b zero (suc zero) h k n = a
@@ -78,9 +74,11 @@ at_pairs P a b (suc (suc i)) j h k n = absurd (omega arith)
 basis_monic : AreMonic seven basis
 unfolding key compared
 basis_monic = record {
-  canonical = at_two (λ i. IsCanonical seven (get_or basis i [])) (omega arith, omega arith, refl, refl, (omega arith, omega arith, refl, tt, tt))
-      (omega arith, omega arith, refl, refl, (omega arith, omega arith, refl, tt, tt));
-  monic = at_two (λ i. leading_coefficient (get_or basis i []) ≡ 1) refl refl;
+  canonical = (
+    (omega arith, omega arith, refl, refl, (omega arith, omega arith, refl, tt, tt)),
+    ((omega arith, omega arith, refl, refl, (omega arith, omega arith, refl, tt, tt)), tt),
+  );
+  monic = (refl, (refl, tt));
 }
 
 -- the one pair has coprime leads
@@ -93,8 +91,7 @@ basis_pairs i (suc (suc j)) h k = absurd (omega arith)
 basis_groebner : IsGroebnerBasis seven basis generators
 basis_groebner =
     complete_groebner seven basis generators positive basis_monic
-    (at_two (λ i. IsMember seven generators (get_or basis i [])) y_squared_less_one_member x_less_y_member)
-    (at_two (λ i. IsMember seven basis (get_or generators i [])) x_squared_less_one_member xy_less_one_member) basis_pairs
+    (y_squared_less_one_member, (x_less_y_member, tt)) (x_squared_less_one_member, (xy_less_one_member, tt)) basis_pairs
 
 pub reduced_example : ReducedExample
 unfolding key compared
@@ -102,13 +99,15 @@ reduced_example = (
   record {
     minimal = record {
       groebner = basis_groebner;
-      apart = at_pairs (λ i j. ¬ (divides (leading_monomial_at basis i) (leading_monomial_at basis j) ≡ true)) (λ d. cc) (λ d. cc);
+      apart = of_two_places (λ f g. ¬ IsTrue (divides (leading_monomial f) (leading_monomial g))) basis
+          (at_pairs (λ i j. ¬ (divides (leading_monomial_at basis i) (leading_monomial_at basis j) ≡ true)) (λ d. cc) (λ d. cc));
     };
     monic = basis_monic;
-    reduced = at_pairs (λ i j. DividesNone (leading_monomial_at basis i) (get_or basis j [])) (λ d. cc, (λ d. cc, tt)) (λ d. cc, (λ d. cc, tt));
+    reduced = of_two_places (λ f g. DividesNone (leading_monomial f) g) basis
+        (at_pairs (λ i j. DividesNone (leading_monomial_at basis i) (get_or basis j [])) (λ d. cc, (λ d. cc, tt)) (λ d. cc, (λ d. cc, tt)));
   },
   (refl, tt),
 )
 
 pub zero_term_refused : ZeroTermIsRefused
-zero_term_refused F h = absurd (omega (arith, (h.canonical 0 (omega arith)).0))
+zero_term_refused F h = absurd (omega (arith, h.canonical.0.0))

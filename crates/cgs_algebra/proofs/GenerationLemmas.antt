@@ -12,14 +12,14 @@ use Rattle.cgs_poly.specs.declared.ring.Ring.{Ring}
 use Rattle.cgs_poly.specs.Polynomial.{Term, term, places, order_of, total, IsOfRing, StartsBelow, IsCanonical, canonical}
 use Rattle.cgs_poly.specs.Product.{multiple, leading_monomial}
 use Rattle.cgs_poly.proofs.SumLemmas.{Alike, alike_same, alike_back, alike_trans, alike_append, total_append}
-use Rattle.cgs_poly.proofs.CanonicalLemmas.{append_of_ring, canonical_of_ring, is_canonical, canonical_alike, canonical_starts}
+use Rattle.cgs_poly.proofs.CanonicalLemmas.{append_of_ring, is_canonical, canonical_alike, canonical_starts}
 use Rattle.cgs_poly.proofs.ProductLemmas.{multiple_of_ring, total_multiple}
 use Rattle.cgs_algebra.specs.Combination.{Summand, combined, IsCombination, IsMember, SameIdeal}
 use Rattle.cgs_algebra.specs.Groebner.{IsGroebnerBasis}
 use Rattle.cgs_algebra.proofs.MemberLemmas.{member_alike, same_member, zero_member, sum_member, multiple_member, generator_member, member_of_members}
 use Rattle.cgs_algebra.proofs.FieldLemmas.{IsOpposite, opposite_in_field}
 use Rattle.cgs_algebra.proofs.ReductionLemmas.{cofactor, cofactor_length, remainder, remainder_of_ring, remainder_below, remainder_alike}
-use Rattle.cgs_algebra.proofs.SpecialisationLemmas.{of_ring_at}
+use Rattle.cgs_algebra.proofs.PlaceLemmas.{canonical_at, of_ring_at, member_at, not_zero_at, lead_place}
 
 -- f + g - g is f
 added_back : (p q : ℕ) (t : List ℕ) (f g : List Term) → 0 < p → Alike p ((f ++ multiple q t g) ++ multiple ((p - 1) * q) t g) f
@@ -38,16 +38,16 @@ added_back p q t f g pos = record {
     sums r q v s i j k l a b c d = let e : (r * q) * v ≡ r * (q * v) = mul_assoc r q v in omega arith
 
 -- each member has the terms of the ring, but for terms that add up to nothing
-combined_of_ring : (ring : Ring) (F : List (List Term)) → ((i : ℕ) → i < length F → IsOfRing ring (get_or F i [])) → (ks : List Summand)
+combined_of_ring : (ring : Ring) (F : List (List Term)) → AllByRecursion (IsCanonical ring) F → (ks : List Summand)
     → IsCombination ring F ks → IsOfRing ring (combined F ks)
 combined_of_ring ring F ok [] h = tt
 combined_of_ring ring F ok (k ∷ ks) h =
     append_of_ring ring (multiple k.coefficient k.monomial (get_or F k.place [])) (combined F ks)
-    (multiple_of_ring ring k.coefficient k.monomial (get_or F k.place []) h.0 (ok k.place h.1)) (combined_of_ring ring F ok ks h.2)
+    (multiple_of_ring ring k.coefficient k.monomial (get_or F k.place []) h.0 (of_ring_at ring F ok k.place h.1)) (combined_of_ring ring F ok ks h.2)
 
 module _ (ring : Ring) (F G : List (List Term)) (field : IsField ring.modulus) (pos : 0 < ring.modulus) (basis : IsGroebnerBasis ring G F) where
   generator : (i : ℕ) → i < length G → IsMember ring G (get_or G i [])
-  generator i l = generator_member ring G pos i l (canonical_of_ring ring (get_or G i []) (basis.canonical i l))
+  generator i l = generator_member ring G pos i l (of_ring_at ring G basis.canonical i l)
 
   abbrev Claim : List ℕ → Type 0
   Claim m = (c : ℕ) (f : List Term) → IsCanonical ring (term c m ∷ f) → IsMember ring F (term c m ∷ f) → IsMember ring G (term c m ∷ f)
@@ -85,15 +85,16 @@ module _ (ring : Ring) (F G : List (List Term)) (field : IsField ring.modulus) (
 
   claim_step : (m : List ℕ) → length m ≡ places ring → Lower m → Claim m
   claim_step m lm lower c f poly inside =
-      let i = basis.leads (term c m ∷ f) poly inside (λ e. cc) in
-      by_member m lower c f poly inside (get_or G i.0 []) (basis.canonical i.0 i.1) (basis.not_zero i.0 i.1) (basis.members i.0 i.1) (generator i.0 i.1) i.2
+      let i = lead_place G m (basis.leads (term c m ∷ f) poly inside (λ e. cc)) in
+      by_member m lower c f poly inside (get_or G i.0 []) (canonical_at ring G basis.canonical i.0 i.1) (not_zero_at G basis.not_zero i.0 i.1)
+      (member_at ring F G basis.members i.0 i.1) (generator i.0 i.1) i.2
 
   canonical_generated : (f : List Term) → IsCanonical ring f → IsMember ring F f → IsMember ring G f
   canonical_generated [] k h = zero_member ring G pos
   canonical_generated (y ∷ f) k h = compared_induction (order_of ring) Claim claim_step y.exponents k.2 y.coefficient f k h
 
   -- each member of the ideal is one of that of its Gröbner basis
-  generated : (f_ok : (i : ℕ) → i < length F → IsOfRing ring (get_or F i [])) (f : List Term) → IsMember ring F f → IsMember ring G f
+  generated : (f_ok : AllByRecursion (IsCanonical ring) F) (f : List Term) → IsMember ring F f → IsMember ring G f
   generated f_ok f h =
       let g : List Term = combined F h.summands in
       let of_ring : IsOfRing ring g = combined_of_ring ring F f_ok h.summands h.combination in
@@ -106,5 +107,5 @@ basis_generates ring F G field f_ok basis =
     let pos : 0 < ring.modulus = omega (arith, field.two) in
     record {
       first = member_of_members ring G F pos basis.members;
-      second = generated ring F G field pos basis (of_ring_at ring F f_ok);
+      second = generated ring F G field pos basis f_ok;
     }

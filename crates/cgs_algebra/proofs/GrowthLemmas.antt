@@ -1,9 +1,10 @@
 -- What stays when a list of polynomials gets further members: combinations, members of its ideal and lcm representations.
-use Rattle.std.proofs.Common.{ℕ, ◌≡◌, ◌-◌, ◌<◌, ◌≤◌, ◌⊎◌, inl, inr, List, [], ◌∷◌, ◌++◌, length, get_or, refl, sym, ap, ◌∙◌, subst, arith}
+use Rattle.std.proofs.Common.{ℕ, ◌≡◌, ◌<◌, List, [], ◌∷◌, ◌++◌, length, get_or, refl, sym, ap, subst, arith}
 use Rattle.std.proofs.Math.Seq.{get_or-append_seam}
-use Rattle.std.proofs.lemmas.Bool.{cases_lt}
-use Rattle.std.proofs.lemmas.List.{length-append, get_or_append_left, get_or-append_right}
+use Rattle.std.proofs.lemmas.List.{length-append, get_or_append_left}
+use Rattle.std.specs.List.{AllByRecursion}
 use Rattle.std.specs.declared.cmp.Ordering.TheVariants.{Less}
+use Rattle.cgs_list.proofs.ListLemmas.{all_push}
 use Rattle.cgs_exps.specs.Monomial.{product}
 use Rattle.cgs_order.specs.TermOrder.{compared}
 use Rattle.cgs_poly.specs.declared.ring.Ring.{Ring}
@@ -61,16 +62,6 @@ module _ (ring : Ring) (F : List (List Term)) (h : List Term) (pos : 0 < ring.mo
       subst (λ g. IsMember ring (F ++ h ∷ []) g) e g
 
   -- where all of F and h are members, all of both are
-  pub members_of_more : (K : List (List Term)) → ((i : ℕ) → i < length F → IsMember ring K (get_or F i [])) → IsMember ring K h
+  pub members_of_more : (K : List (List Term)) → AllByRecursion (IsMember ring K) F → IsMember ring K h
       → (f : List Term) → IsMember ring (F ++ h ∷ []) f → IsMember ring K f
-  members_of_more K inside last f m = member_of_members ring (F ++ h ∷ []) K pos each f m
-    where
-      each : (i : ℕ) → i < length (F ++ h ∷ []) → IsMember ring K (get_or (F ++ h ∷ []) i [])
-      each i l = by_place (cases_lt i (length F))
-        where
-          by_place : (i < length F) ⊎ (length F ≤ i) → IsMember ring K (get_or (F ++ h ∷ []) i [])
-          by_place (inl k) = subst (λ g. IsMember ring K g) (sym (get_or_append_left F (h ∷ []) [] i k)) (inside i k)
-          by_place (inr k) =
-              let z : i - length F ≡ 0 = omega (arith, length-append F (h ∷ [])) in
-              let e : get_or (F ++ h ∷ []) i [] ≡ h = get_or-append_right F (h ∷ []) (length F) i [] refl k ∙ ap (λ n. get_or (h ∷ []) n []) z in
-              subst (λ g. IsMember ring K g) (sym e) last
+  members_of_more K inside last f m = member_of_members ring (F ++ h ∷ []) K pos (all_push (IsMember ring K) F h inside last) f m

@@ -1,3 +1,4 @@
+pub mod PlaceLemmas
 pub mod CombinationLemmas
 pub mod MemberLemmas
 pub mod GrowthLemmas

@@ -11,6 +11,9 @@ use Rattle.cgs_algebra.proofs.CombinationLemmas.{combined_append, combination_ap
 use Rattle.cgs_algebra.proofs.CombinationLemmas.{total_scaled_summands, combination_scaled}
 use Rattle.cgs_poly.proofs.ProductLemmas.{alike_multiple}
 use Rattle.cgs_field.proofs.ModularLemmas.{mod_mul}
+use Rattle.std.specs.List.{AllByRecursion}
+use Rattle.cgs_list.proofs.ListLemmas.{all_by_places, all_at_place}
+use Rattle.cgs_algebra.proofs.PlaceLemmas.{member_at}
 
 pub products_comm : (p : ℕ) (f g : List Term) → Alike p (all_products f g) (all_products g f)
 products_comm p f g = record { under = λ w. ap (λ n. n % p) (total_products_comm w f g) }
@@ -69,13 +72,17 @@ module _ (ring : Ring) (F : List (List Term)) (pos : 0 < ring.modulus) where
       let e : multiple 1 (replicate (places ring) 0) g ++ [] ≡ g = append-nil (multiple 1 (replicate (places ring) 0) g) ∙ multiple_one ring g h in
       member_from_alike (summand 1 (replicate (places ring) 0) i ∷ []) (length-replicate {A = ℕ} (places ring) 0, l, tt) (rw e (alike_same ring.modulus g))
 
-module _ (ring : Ring) (F G : List (List Term)) (pos : 0 < ring.modulus) (inside : (i : ℕ) → i < length F → IsMember ring G (get_or F i [])) where
+-- each polynomial of a list is in its ideal
+pub generators_inside : (ring : Ring) (F : List (List Term)) → 0 < ring.modulus → AllByRecursion (IsOfRing ring) F → AllByRecursion (IsMember ring F) F
+generators_inside ring F pos ok = all_by_places (IsMember ring F) [] F (λ i l. generator_member ring F pos i l (all_at_place (IsOfRing ring) [] F ok i l))
+
+module _ (ring : Ring) (F G : List (List Term)) (pos : 0 < ring.modulus) (inside : AllByRecursion (IsMember ring G) F) where
   pub combined_member : (ks : List Summand) → IsCombination ring F ks → IsMember ring G (combined F ks)
   combined_member [] h = zero_member ring G pos
   combined_member (k ∷ ks) h =
       let g : List Term = get_or F k.place [] in
       sum_member ring G pos (multiple k.coefficient k.monomial g) (combined F ks)
-      (multiple_member ring G pos k.coefficient k.monomial g h.0 (inside k.place h.1)) (combined_member ks h.2)
+      (multiple_member ring G pos k.coefficient k.monomial g h.0 (member_at ring G F inside k.place h.1)) (combined_member ks h.2)
 
   -- the ideal of members of an ideal is inside it
   pub member_of_members : (f : List Term) → IsMember ring F f → IsMember ring G f

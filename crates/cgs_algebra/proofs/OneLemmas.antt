@@ -17,6 +17,8 @@ use Rattle.cgs_poly.proofs.MultipleLemmas.{lead_length}
 use Rattle.cgs_algebra.specs.Combination.{IsMember}
 use Rattle.cgs_algebra.specs.Groebner.{leading_monomial_at, IsReduced}
 use Rattle.cgs_algebra.proofs.MemberLemmas.{same_member, zero_member, sum_member, multiple_member}
+use Rattle.std.specs.List.{AllByRecursion}
+use Rattle.cgs_algebra.proofs.PlaceLemmas.{canonical_at, monic_at, not_zero_at, lead_place, lead_at_place, leads_apart}
 
 pub divides_by_one : (n : ℕ) (m : List ℕ) → divides (replicate n 0) m ≡ true
 divides_by_one zero m = refl
@@ -47,26 +49,23 @@ all_members ring pos F (x ∷ f) h m =
     })
     (sum_member ring F pos t f (multiple_member ring F pos x.coefficient x.exponents (one ring) h.0 m) (all_members ring pos F f h.1 m))
 
--- what holds at the place 0 holds at each place of a list of one
-pub at_one : (P : ℕ → Type 0) → P 0 → (i : ℕ) → i < 1 → P i
-at_one P a zero h = a
-at_one P a (suc i) h = absurd (omega arith)
-
 module _ (ring : Ring) (two : 1 < ring.modulus) (F : List (List Term)) where
   module _ (G : List (List Term)) (reduced : IsReduced ring G F) where
     long : (i : ℕ) → i < length G → length (leading_monomial_at G i) ≡ places ring
-    long i l = lead_length ring (get_or G i []) (reduced.monic.canonical i l) (reduced.minimal.groebner.not_zero i l)
+    long i l = lead_length ring (get_or G i []) (canonical_at ring G reduced.monic.canonical i l) (not_zero_at G reduced.minimal.groebner.not_zero i l)
 
     -- the member whose lead is 1 is alone
     alone_at : (i : ℕ) → i < length G → leading_monomial_at G i ≡ replicate (places ring) 0 → G ≡ one ring ∷ []
-    alone_at i l e = by_list G (λ j k. same j k (eqb i j) refl) i l (monic_one ring (get_or G i []) (reduced.monic.canonical i l) (reduced.monic.monic i l) e)
+    alone_at i l e =
+        by_list G (λ j k. same j k (eqb i j) refl) i l
+        (monic_one ring (get_or G i []) (canonical_at ring G reduced.monic.canonical i l) (monic_at G reduced.monic.monic i l) e)
       where
         same : (j : ℕ) → j < length G → (b : Bool) → eqb i j ≡ b → i ≡ j
         same j k true q = eqb-true i j q
         same j k false q =
             let d : IsTrue (divides (leading_monomial_at G i) (leading_monomial_at G j)) =
             subst (λ m. IsTrue (divides m (leading_monomial_at G j))) (sym e) (divides_by_one (places ring) (leading_monomial_at G j)) in
-            absurd (reduced.minimal.apart i j l k (eqb-false i j q) d)
+            absurd (leads_apart G reduced.minimal.apart i j l k (eqb-false i j q) d)
 
         by_list : (H : List (List Term)) → ((j : ℕ) → j < length H → i ≡ j) → (n : ℕ) → n < length H → get_or H n [] ≡ one ring → H ≡ one ring ∷ []
         by_list [] s n k q = absurd (omega arith)
@@ -79,13 +78,12 @@ module _ (ring : Ring) (two : 1 < ring.modulus) (F : List (List Term)) where
 
     one_from_member : IsMember ring F (one ring) → G ≡ one ring ∷ []
     one_from_member m =
-        let d = reduced.minimal.groebner.leads (one ring) (one_canonical ring two) m (λ z. cc) in
+        let d = lead_place G (replicate (places ring) 0) (reduced.minimal.groebner.leads (one ring) (one_canonical ring two) m (λ z. cc)) in
         alone_at d.0 d.1 (divides_zeros (places ring) (leading_monomial_at G d.0) (long d.0 d.1) d.2)
 
     member_from_one : G ≡ one ring ∷ [] → IsMember ring F (one ring)
     member_from_one e =
-        let l : 0 < length G = subst (λ H. 0 < length H) (sym e) (omega arith) in
-        subst (λ f. IsMember ring F f) (ap (λ H. get_or H 0 []) e) (reduced.minimal.groebner.members 0 l)
+        (subst (λ H. AllByRecursion (IsMember ring F) H) e reduced.minimal.groebner.members).0
 
     -- 1 is a member exactly where the reduced basis is the list of 1 alone
     pub one_is_member : IsMember ring F (one ring) ↔ (G ≡ one ring ∷ [])
@@ -95,20 +93,20 @@ module _ (ring : Ring) (two : 1 < ring.modulus) (F : List (List Term)) where
   one_reduced m = record {
     minimal = record {
       groebner = record {
-        canonical = at_one (λ i. IsCanonical ring (get_or (one ring ∷ []) i [])) (one_canonical ring two);
-        members = at_one (λ i. IsMember ring F (get_or (one ring ∷ []) i [])) m;
-        not_zero = at_one (λ i. ¬ (get_or (one ring ∷ []) i [] ≡ [])) (λ e. cc);
-        leads = λ f k h some. (0, omega arith, divides_by_one (places ring) (leading_monomial f));
+        canonical = (one_canonical ring two, tt);
+        members = (m, tt);
+        not_zero = (λ e. cc, tt);
+        leads = λ f k h some. lead_at_place (one ring ∷ []) (leading_monomial f) 0 (omega arith) (divides_by_one (places ring) (leading_monomial f));
       };
-      apart = λ i j hi hj n d. n (omega (arith, hi, hj));
+      apart = λ i j d l h. absurd (omega (arith, l, h));
     };
     monic = record {
-      canonical = at_one (λ i. IsCanonical ring (get_or (one ring ∷ []) i [])) (one_canonical ring two);
-      monic = at_one (λ i. leading_coefficient (get_or (one ring ∷ []) i []) ≡ 1) refl;
+      canonical = (one_canonical ring two, tt);
+      monic = (refl, tt);
     };
-    reduced = λ i j hi hj n. absurd (n (omega (arith, hi, hj)));
+    reduced = λ i j d l h. absurd (omega (arith, l, h));
   }
 
   -- 1 is a member exactly where the list of 1 alone is a reduced basis
   pub one_is_reduced : IsMember ring F (one ring) ↔ IsReduced ring (one ring ∷ []) F
-  one_is_reduced = (one_reduced, λ r. r.minimal.groebner.members 0 (omega arith))
+  one_is_reduced = (one_reduced, λ r. r.minimal.groebner.members.0)

@@ -22,6 +22,7 @@ use Rattle.cgs_algebra.proofs.CombinationLemmas.{scaled_summands, total_scaled_s
 use Rattle.cgs_algebra.proofs.LcmLemmas.{CommonMultiple, common_multiple, same_factor}
 use Rattle.cgs_poly.proofs.ProductLemmas.{total_multiple, multiple_append, multiple_multiple, alike_multiple}
 use Rattle.cgs_field.proofs.ModularLemmas.{mod_mul, mod_opposite, mod_twice}
+use Rattle.cgs_algebra.proofs.PlaceLemmas.{canonical_at, monic_at}
 
 -- f is a combination whose multiples have their leads below m
 pub record IsRepresentedBelow (ring : Ring) (G : List (List Term)) (m : List ℕ) (f : List Term) : Type 0 where
@@ -109,7 +110,7 @@ module _ (ring : Ring) (G : List (List Term)) (pos : 0 < ring.modulus) (ok : Are
   at i = get_or G i []
 
   pub lead_at_length : (i : ℕ) → i < length G → length (leading_monomial_at G i) ≡ places ring
-  lead_at_length i h = lead_length ring (at i) (ok.canonical i h) (monic_not_empty (at i) (ok.monic i h))
+  lead_at_length i h = lead_length ring (at i) (canonical_at ring G ok.canonical i h) (monic_not_empty (at i) (monic_at G ok.monic i h))
 
   leads_shifted : (c : ℕ) (t m : List ℕ) (ks : List Summand) → length t ≡ places ring
       → length m ≡ places ring → IsCombination ring G ks → LeadsBelow ring G m ks
@@ -181,7 +182,8 @@ module _ (ring : Ring) (G : List (List Term)) (pos : 0 < ring.modulus) (ok : Are
   all_below_combined m [] h b = tt
   all_below_combined m (k ∷ ks) h b =
       all_below_append ring m (multiple k.coefficient k.monomial (at k.place)) (combined G ks)
-      (all_below_multiple ring m k.coefficient k.monomial (at k.place) h.0 (ok.canonical k.place h.1) b.0) (all_below_combined m ks h.2 b.1)
+      (all_below_multiple ring m k.coefficient k.monomial (at k.place) h.0 (canonical_at ring G ok.canonical k.place h.1) b.0)
+      (all_below_combined m ks h.2 b.1)
 
   pub represented_zero_at : (m : List ℕ) (f : List Term) → IsRepresentedBelow ring G m f → total (indicator m) f % ring.modulus ≡ 0
   represented_zero_at m f h =

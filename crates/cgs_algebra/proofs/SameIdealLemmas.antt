@@ -3,7 +3,8 @@ use Rattle.std.proofs.Common.{List, ◌↔◌}
 use Rattle.cgs_poly.specs.declared.ring.Ring.{Ring}
 use Rattle.cgs_poly.specs.Polynomial.{Term}
 use Rattle.cgs_algebra.specs.Groebner.{IsGroebnerBasis, IsMinimal, IsReduced}
-use Rattle.cgs_algebra.specs.Combination.{SameIdeal}
+use Rattle.cgs_algebra.specs.Combination.{IsMember, SameIdeal}
+use Rattle.cgs_list.proofs.ListLemmas.{all_weaker}
 
 pub same_ideal_back : (ring : Ring) (F G : List (List Term)) → SameIdeal ring F G → SameIdeal ring G F
 same_ideal_back ring F G s = record { first = s.second; second = s.first }
@@ -15,7 +16,7 @@ module _ (ring : Ring) (F H G : List (List Term)) (same : SameIdeal ring F H) wh
   groebner_of_same : IsGroebnerBasis ring G F → IsGroebnerBasis ring G H
   groebner_of_same h = record {
     canonical = h.canonical;
-    members = λ i l. same.first _ (h.members i l);
+    members = all_weaker (IsMember ring F) (IsMember ring H) G h.members same.first;
     not_zero = h.not_zero;
     leads = λ f k m some. h.leads f k (same.second f m) some;
   }

@@ -1,7 +1,6 @@
 -- What sums, multiples, products and members of ideals become at a point of the parameters.
-use Rattle.std.proofs.Common.{ℕ, ◌<◌, List, [], ◌++◌, length, get_or, sym, ◌∙◌, subst, arith}
+use Rattle.std.proofs.Common.{ℕ, ◌<◌, List, [], ◌++◌, sym, ◌∙◌, subst, arith}
 use Rattle.std.proofs.lemmas.List.{append-nil}
-use Rattle.std.proofs.lemmas.List.Elements.{All-from_recursion}
 use Rattle.std.specs.List.{AllByRecursion}
 use Rattle.cgs_poly.specs.declared.ring.Ring.{Ring}
 use Rattle.cgs_poly.specs.Polynomial.{Term, IsOfRing, IsCanonical, canonical}
@@ -11,16 +10,10 @@ use Rattle.cgs_poly.proofs.CanonicalLemmas.{canonical_of_ring, canonical_alike, 
 use Rattle.cgs_poly.proofs.SpecialisedLemmas.{at_point}
 use Rattle.cgs_algebra.specs.Combination.{IsMember}
 use Rattle.cgs_algebra.specs.Specialisation.{specialised_list, HasLift}
+use Rattle.cgs_algebra.proofs.PlaceLemmas.{of_ring_at}
 use Rattle.cgs_algebra.proofs.MemberLemmas.{same_member}
 use Rattle.cgs_algebra.proofs.PointLemmas.{total_specialised}
 use Rattle.cgs_algebra.proofs.SpecialisedIdealLemmas.{specialised_member, lifted_member}
-
--- the polynomials at the places of a list
-pub canonical_at : (ring : Ring) (F : List (List Term)) → AllByRecursion (IsCanonical ring) F → (i : ℕ) → i < length F → IsCanonical ring (get_or F i [])
-canonical_at ring F h i l = All-from_recursion (IsCanonical ring) F h i [] l
-
-pub of_ring_at : (ring : Ring) (F : List (List Term)) → AllByRecursion (IsCanonical ring) F → (i : ℕ) → i < length F → IsOfRing ring (get_or F i [])
-of_ring_at ring F h i l = canonical_of_ring ring (get_or F i []) (canonical_at ring F h i l)
 
 module _ (ring : Ring) (a : List ℕ) (pos : 0 < ring.modulus) where
   module _ (F : List (List Term)) (ok : AllByRecursion (IsCanonical ring) F) where

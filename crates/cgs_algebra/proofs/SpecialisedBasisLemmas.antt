@@ -1,6 +1,6 @@
 -- Where a Gröbner basis stays one at a point of the parameters: the whole statement (Kapur, Sun, Wang 2010, theorem 4.3).
-use Rattle.std.proofs.Common.{ℕ, ◌≡◌, ◌+◌, ◌%◌, ◌<◌, inl, inr, Bool, true, false, List, [], ◌∷◌, ◌++◌, length, get_or, map, take, refl, sym, ap, ◌∙◌, subst}
-use Rattle.std.proofs.Common.{arith}
+use Rattle.std.proofs.Common.{ℕ, ◌≡◌, ◌+◌, ◌%◌, ◌<◌, inl, inr, Bool, true, false, IsTrue, List, [], ◌∷◌, ◌++◌, length, get_or, map, take, refl, sym, ap, ◌∙◌}
+use Rattle.std.proofs.Common.{subst, arith}
 use Rattle.std.proofs.lemmas.List.{length-append, length-map, get_or-map, get_or-append-add, get_or_default}
 use Rattle.std.proofs.lemmas.List.Elements.{All-from_recursion, recursion_from_All}
 use Rattle.std.specs.List.{AllByRecursion}
@@ -23,11 +23,12 @@ use Rattle.cgs_algebra.proofs.SpecialLeadLemmas.{IsSpecialLead, special_lead_ali
 use Rattle.cgs_algebra.proofs.VanishingLemmas.{free_vanishes}
 use Rattle.cgs_algebra.proofs.StabilityLemmas.{IsCovered, stability}
 use Rattle.cgs_algebra.proofs.SpecialisedIdealLemmas.{specialised_member, lifted_member}
-use Rattle.cgs_algebra.proofs.SpecialisationLemmas.{of_ring_at}
 use Rattle.cgs_poly.proofs.ParameterLemmas.{tested_free, free_tested}
 use Rattle.cgs_poly.proofs.SpecialisedLemmas.{at_point, specialised_of_ring, variables_length}
 use Rattle.cgs_algebra.proofs.EliminationLemmas.{parametric_at, parametric_vanishes}
 use Rattle.cgs_algebra.proofs.DicksonLemmas.{dickson_found, dickson_divides}
+use Rattle.cgs_algebra.proofs.PlaceLemmas.{canonical_at, of_ring_at, member_at, not_zero_at, lead_at_place, two_places, of_two_places}
+use Rattle.cgs_list.proofs.ListLemmas.{all_by_places}
 
 -- polynomials with a leading coefficient that is not 0 at the point
 
@@ -86,13 +87,13 @@ module _ (ring : Ring) (a : List ℕ) (pos : 0 < ring.modulus) (F E G : List (Li
     m_at j = get_or M j []
 
     m_ok : (j : ℕ) → j < length M → IsCanonical ring (m_at j)
-    m_ok j h = let i = dickson_found ring M G dickson j h in subst (λ f. IsCanonical ring f) i.2 (monic.canonical i.0 i.1)
+    m_ok j h = let i = dickson_found ring M G dickson j h in subst (λ f. IsCanonical ring f) i.2 (canonical_at ring G monic.canonical i.0 i.1)
 
     m_in : (j : ℕ) → j < length M → I (m_at j)
-    m_in j h = let i = dickson_found ring M G dickson j h in subst (λ f. I f) i.2 (basis.members i.0 i.1)
+    m_in j h = let i = dickson_found ring M G dickson j h in subst (λ f. I f) i.2 (member_at ring (F ++ E) G basis.members i.0 i.1)
 
     m_some : (j : ℕ) → j < length M → m_at j ≡ [] → ⊥
-    m_some j h e = let i = dickson_found ring M G dickson j h in basis.not_zero i.0 i.1 (i.2 ∙ e)
+    m_some j h e = let i = dickson_found ring M G dickson j h in not_zero_at G basis.not_zero i.0 i.1 (i.2 ∙ e)
 
     m_leading : (j : ℕ) → j < length M → ¬ (value_at ring a (lc_x ring (m_at j)) ≡ 0)
     m_leading = leading_at ring a M leading
@@ -114,7 +115,8 @@ module _ (ring : Ring) (a : List ℕ) (pos : 0 < ring.modulus) (F E G : List (Li
               j.0,
               j.1,
               divides_trans (lead_x ring (m_at j.0)) (lead_x ring (get_or G i [])) (take ring.variables m)
-                  (lead_x_length (m_at j.0) (m_ok j.0 j.1) (m_some j.0 j.1) ∙ sym (lead_x_length (get_or G i []) (monic.canonical i h) (basis.not_zero i h)))
+                  (lead_x_length (m_at j.0) (m_ok j.0 j.1) (m_some j.0 j.1)
+                  ∙ sym (lead_x_length (get_or G i []) (canonical_at ring G monic.canonical i h) (not_zero_at G basis.not_zero i h)))
                   j.2
                   (take_divides ring.variables (leading_monomial_at G i) m d),
             ))
@@ -129,6 +131,9 @@ module _ (ring : Ring) (a : List ℕ) (pos : 0 < ring.modulus) (F E G : List (Li
     in_list : (i : ℕ) → i < length specials → i < length M
     in_list i h = omega (arith, length-map M (specialised ring a))
 
+    each_special : (P : List Term → Type 0) → ((j : ℕ) → j < length M → P (specialised ring a (m_at j))) → AllByRecursion P specials
+    each_special P each = all_by_places P [] specials (λ i h. subst P (sym (get_specialised ring a M i)) (each i (in_list i h)))
+
     special_lead : (j : ℕ) → j < length M → leading_monomial_at specials j ≡ lead_x ring (m_at j)
     special_lead j h = ap leading_monomial (get_specialised ring a M j) ∙ specialised_lead ring a pos (m_at j) (m_ok j h) (m_leading j h)
 
@@ -142,7 +147,8 @@ module _ (ring : Ring) (a : List ℕ) (pos : 0 < ring.modulus) (F E G : List (Li
         let sg : IsSpecialLead ring a pos (leading_monomial f) g =
         special_lead_alike ring a pos (leading_monomial f) h g (λ w. sym (ga.under (at_point ring a w))) s in
         let j = found g (is_canonical ring h pos of_ring) (same_member ring (F ++ E) pos ga inside) (leading_monomial f) sg in
-        (j.0, omega (arith, length-map M (specialised ring a), j.1), subst (λ x. divides x (leading_monomial f) ≡ true) (sym (special_lead j.0 j.1)) j.2)
+        lead_at_place specials (leading_monomial f) j.0 (omega (arith, length-map M (specialised ring a), j.1))
+        (subst (λ x. divides x (leading_monomial f) ≡ true) (sym (special_lead j.0 j.1)) j.2)
 
     special_leads : (f : List Term) → IsCanonical (variables_ring ring) f → IsMember (variables_ring ring) (specialised_list ring a F) f → (f ≡ [] → ⊥)
         → SomeLeadDivides specials (leading_monomial f)
@@ -154,20 +160,16 @@ module _ (ring : Ring) (a : List ℕ) (pos : 0 < ring.modulus) (F E G : List (Li
     pub specialised_basis : IsMinimal (variables_ring ring) specials (specialised_list ring a F)
     specialised_basis = record {
       groebner = record {
-        canonical = λ i h.
-            let j = in_list i h in
-            let k = specialised_canonical ring a pos (m_at i) (m_ok i j) (m_leading i j) in
-            subst (λ f. IsCanonical (variables_ring ring) f) (sym (get_specialised ring a M i)) k;
-        members = λ i h. let j = in_list i h in
-            subst (λ f. IsMember (variables_ring ring) (specialised_list ring a F) f) (sym (get_specialised ring a M i))
-            (specialised_member ring a pos F E (of_ring_at ring F f_ok) e_ring second_zero (m_at i) (canonical_of_ring ring (m_at i) (m_ok i j)) (m_in i j));
-        not_zero = λ i h e. let j = in_list i h in specialised_not_zero ring a pos (m_at i) (m_ok i j) (m_leading i j) (sym (get_specialised ring a M i) ∙ e);
+        canonical = each_special (IsCanonical (variables_ring ring)) (λ j l. specialised_canonical ring a pos (m_at j) (m_ok j l) (m_leading j l));
+        members = each_special (IsMember (variables_ring ring) (specialised_list ring a F)) (λ j l.
+            specialised_member ring a pos F E (of_ring_at ring F f_ok) e_ring second_zero (m_at j) (canonical_of_ring ring (m_at j) (m_ok j l)) (m_in j l));
+        not_zero = each_special (λ f. ¬ (f ≡ [])) (λ j l. specialised_not_zero ring a pos (m_at j) (m_ok j l) (m_leading j l));
         leads = special_leads;
       };
-      apart = λ i j hi hj n d.
-          dickson.apart i j (in_list i hi) (in_list j hj) n
+      apart = of_two_places (λ f g. ¬ IsTrue (divides (leading_monomial f) (leading_monomial g))) specials (λ i j hi hj n d.
+          two_places (λ f g. ¬ IsTrue (divides (lead_x ring f) (lead_x ring g))) M dickson.apart i j (in_list i hi) (in_list j hj) n
           (subst (λ x. divides x (lead_x ring (m_at j)) ≡ true) (special_lead i (in_list i hi))
-          (subst (λ y. divides (leading_monomial_at specials i) y ≡ true) (special_lead j (in_list j hj)) d));
+          (subst (λ y. divides (leading_monomial_at specials i) y ≡ true) (special_lead j (in_list j hj)) d)));
     }
 
 -- the conditions vanish where the basis' members in the parameters alone do

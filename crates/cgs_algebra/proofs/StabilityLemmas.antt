@@ -25,6 +25,7 @@ use Rattle.cgs_algebra.proofs.ReductionLemmas.{cofactor, cofactor_length, remain
 use Rattle.cgs_algebra.proofs.CrossLemmas.{crossed, crossed_of_ring, crossed_below, crossed_special, crossed_member}
 use Rattle.cgs_algebra.proofs.SpecialLeadLemmas.{IsSpecialLead, special_lead_alike, special_lead_scaled, lead_once, lead_by_value}
 use Rattle.cgs_algebra.proofs.VanishingLemmas.{Vanishes, multiple_vanishes, vanishing_added}
+use Rattle.cgs_algebra.proofs.PlaceLemmas.{canonical_at, monic_at, member_at, lead_place}
 
 module _ (ring : Ring) (a : List ℕ) (pos : 0 < ring.modulus) (field : IsField ring.modulus) (B G M : List (List Term)) (monic : AreMonic ring G)
     (basis : IsGroebnerBasis ring G B)
@@ -106,12 +107,13 @@ module _ (ring : Ring) (a : List ℕ) (pos : 0 < ring.modulus) (field : IsField 
     -- some lead of G divides the lead m, which leaves the three cases
     claim_step : (m : List ℕ) → length m ≡ places ring → Lower m → Claim m
     claim_step m lm lower c f poly inside x h =
-        let i = basis.leads (term c m ∷ f) poly inside (λ e. cc) in
+        let i = lead_place G m (basis.leads (term c m ∷ f) poly inside (λ e. cc)) in
         by_cover i.0 i.1 i.2 (covered i.0 i.1)
       where
         by_cover : (i : ℕ) → i < length G → divides (leading_monomial_at G i) m ≡ true → IsCovered i → Found x
         by_cover i hi d (inl v) =
-            by_vanishing m lower c f poly inside x h (get_or G i []) (monic.canonical i hi) (monic.monic i hi) (basis.members i hi) d v
+            by_vanishing m lower c f poly inside x h (get_or G i []) (canonical_at ring G monic.canonical i hi) (monic_at G monic.monic i hi)
+            (member_at ring B G basis.members i hi) d v
         by_cover i hi d (inr q) = by_test (eqb value 0) refl (q m d)
           where
             value : ℕ

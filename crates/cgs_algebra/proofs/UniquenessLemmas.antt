@@ -21,6 +21,7 @@ use Rattle.cgs_algebra.proofs.AscendingLemmas.{same_ascending}
 use Rattle.cgs_algebra.proofs.MemberLemmas.{same_member, sum_member, multiple_member}
 use Rattle.cgs_poly.proofs.ProductLemmas.{multiple_of_ring, total_multiple}
 use Rattle.cgs_field.proofs.ModularLemmas.{mod_opposite, mod_cancel}
+use Rattle.cgs_algebra.proofs.PlaceLemmas.{canonical_at, monic_at, member_at, not_zero_at, lead_place, leads_apart, two_places}
 
 -- a monomial divides none that is below it
 pub divides_none_below : (ring : Ring) (l : List ℕ) (f : List Term) → length l ≡ places ring → IsOfRing ring f → AllBelow ring l f → DividesNone l f
@@ -45,15 +46,15 @@ module _ (ring : Ring) (pos : 0 < ring.modulus) (F : List (List Term)) where
   at G i = get_or G i []
 
   reduced_lead_length : (G : List (List Term)) → IsReduced ring G F → (i : ℕ) → i < length G → length (leading_monomial_at G i) ≡ places ring
-  reduced_lead_length G g i h = lead_length ring (at G i) (g.monic.canonical i h) (g.minimal.groebner.not_zero i h)
+  reduced_lead_length G g i h = lead_length ring (at G i) (canonical_at ring G g.monic.canonical i h) (not_zero_at G g.minimal.groebner.not_zero i h)
 
   -- at a multiple of some lead of a reduced basis, a member has its leading coefficient 1 or the coefficient 0
   at_divided : (G : List (List Term)) → IsReduced ring G F → (i k : ℕ) → i < length G → k < length G → (m : List ℕ) → divides (leading_monomial_at G k) m ≡ true
       → (f : List Term) → f ≡ at G i → total (indicator m) f ≡ indicator m (leading_monomial f)
-  at_divided G g i k hi hk m d [] e = absurd (g.minimal.groebner.not_zero i hi (sym e))
+  at_divided G g i k hi hk m d [] e = absurd (not_zero_at G g.minimal.groebner.not_zero i hi (sym e))
   at_divided G g i k hi hk m d (x ∷ f) e =
-      let can : IsCanonical ring (x ∷ f) = subst (λ q. IsCanonical ring q) (sym e) (g.monic.canonical i hi) in
-      let one : leading_coefficient (x ∷ f) ≡ 1 = subst (λ q. leading_coefficient q ≡ 1) (sym e) (g.monic.monic i hi) in
+      let can : IsCanonical ring (x ∷ f) = subst (λ q. IsCanonical ring q) (sym e) (canonical_at ring G g.monic.canonical i hi) in
+      let one : leading_coefficient (x ∷ f) ≡ 1 = subst (λ q. leading_coefficient q ≡ 1) (sym e) (monic_at G g.monic.monic i hi) in
       let z : total (indicator m) f ≡ 0 = divided_zero (leading_monomial_at G k) m f (tail_clear can (cases_eq k i)) d in
       rw (z, one) (omega arith)
     where
@@ -62,14 +63,24 @@ module _ (ring : Ring) (pos : 0 < ring.modulus) (F : List (List Term)) where
           let s : x.exponents ≡ leading_monomial_at G k = ap leading_monomial e ∙ ap (leading_monomial_at G) (sym q) in
           subst (λ l. DividesNone l f) s
           (divides_none_below ring x.exponents f can.2 (canonical_of_ring ring f can.4) (all_below_canonical ring x.exponents f can.4 can.3))
-      tail_clear can (inr q) = (subst (λ p. DividesNone (leading_monomial_at G k) p) (sym e) (g.reduced k i hk hi q)).1
+      tail_clear can (inr q) =
+          let none = two_places (λ f g. DividesNone (leading_monomial f) g) G g.reduced k i hk hi q in
+          (subst (λ p. DividesNone (leading_monomial_at G k) p) (sym e) none).1
+
+  -- a lead of one basis divides each lead of the other
+  divisor_of_lead : (G H : List (List Term)) → IsReduced ring G F → IsReduced ring H F → (i : ℕ)
+      → i < length H → (j : ℕ) × (j < length G) × (divides (leading_monomial_at G j) (leading_monomial_at H i) ≡ true)
+  divisor_of_lead G H g h i l =
+      lead_place G (leading_monomial_at H i)
+      (g.minimal.groebner.leads (at H i) (canonical_at ring H h.monic.canonical i l) (member_at ring F H h.minimal.groebner.members i l)
+      (not_zero_at H h.minimal.groebner.not_zero i l))
 
   -- each lead of one basis is a lead of the other
   lead_there : (G H : List (List Term)) → IsReduced ring G F → IsReduced ring H F → (i : ℕ)
       → i < length G → (j : ℕ) × (j < length H) × (leading_monomial_at H j ≡ leading_monomial_at G i)
   lead_there G H g h i l =
-      let j = h.minimal.groebner.leads (at G i) (g.monic.canonical i l) (g.minimal.groebner.members i l) (g.minimal.groebner.not_zero i l) in
-      let k = g.minimal.groebner.leads (at H j.0) (h.monic.canonical j.0 j.1) (h.minimal.groebner.members j.0 j.1) (h.minimal.groebner.not_zero j.0 j.1) in
+      let j = divisor_of_lead H G h g i l in
+      let k = divisor_of_lead G H g h j.0 j.1 in
       let lj = reduced_lead_length H h j.0 j.1 in
       let li = reduced_lead_length G g i l in
       let lk = reduced_lead_length G g k.0 k.1 in
@@ -85,7 +96,7 @@ module _ (ring : Ring) (pos : 0 < ring.modulus) (F : List (List Term)) where
           → divides (leading_monomial_at G k) m ≡ true
           → divides (leading_monomial_at G i) m ≡ true
       same k hk d (inl e) m q = subst (λ n. divides (leading_monomial_at G n) m ≡ true) e q
-      same k hk d (inr e) m q = absurd (g.minimal.apart k i hk l e d)
+      same k hk d (inr e) m q = absurd (leads_apart G g.minimal.apart k i hk l e d)
 
   -- f - g
   abbrev less : List Term → List Term → List Term
@@ -110,12 +121,12 @@ module _ (ring : Ring) (pos : 0 < ring.modulus) (F : List (List Term)) where
       one_length = length-replicate {A = ℕ} (places ring) 0
 
       second : IsOfRing ring (at H j)
-      second = canonical_of_ring ring (at H j) (h.monic.canonical j hj)
+      second = canonical_of_ring ring (at H j) (canonical_at ring H h.monic.canonical j hj)
 
       of_ring : IsOfRing ring (less (at G i) (at H j))
       of_ring =
           append_of_ring ring (at G i) (multiple (ring.modulus - 1) (replicate (places ring) 0) (at H j))
-          (canonical_of_ring ring (at G i) (g.monic.canonical i hi))
+          (canonical_of_ring ring (at G i) (canonical_at ring G g.monic.canonical i hi))
           (multiple_of_ring ring (ring.modulus - 1) (replicate (places ring) 0) (at H j) one_length second)
 
       total_d : (w : List ℕ → ℕ) → total w (less (at G i) (at H j)) ≡ total w (at G i) + (ring.modulus - 1) * total w (at H j)
@@ -123,12 +134,12 @@ module _ (ring : Ring) (pos : 0 < ring.modulus) (F : List (List Term)) where
 
       member : IsMember ring F (less (at G i) (at H j))
       member =
-          sum_member ring F pos (at G i) (multiple (ring.modulus - 1) (replicate (places ring) 0) (at H j)) (g.minimal.groebner.members i hi)
-          (multiple_member ring F pos (ring.modulus - 1) (replicate (places ring) 0) (at H j) one_length (h.minimal.groebner.members j hj))
+          sum_member ring F pos (at G i) (multiple (ring.modulus - 1) (replicate (places ring) 0) (at H j)) (member_at ring F G g.minimal.groebner.members i hi)
+          (multiple_member ring F pos (ring.modulus - 1) (replicate (places ring) 0) (at H j) one_length (member_at ring F H h.minimal.groebner.members j hj))
 
       by_difference : (q : List Term) → IsCanonical ring q → Alike ring.modulus q (less (at G i) (at H j)) → at H j ≡ at G i
       by_difference [] k a =
-          same_canonical ring (at H j) (at G i) (h.monic.canonical j hj) (g.monic.canonical i hi) (record {
+          same_canonical ring (at H j) (at G i) (canonical_at ring H h.monic.canonical j hj) (canonical_at ring G g.monic.canonical i hi) (record {
             under = λ w.
                 let z : (total w (at G i) + (ring.modulus - 1) * total w (at H j)) % ring.modulus ≡ 0 =
                 ap (λ n. n % ring.modulus) (sym (total_d w)) ∙ (sym (a.under w) ∙ zero-mod ring.modulus) in
@@ -137,7 +148,7 @@ module _ (ring : Ring) (pos : 0 < ring.modulus) (F : List (List Term)) where
           })
       by_difference (y ∷ q) k a =
           let m : List ℕ = y.exponents in
-          let s = g.minimal.groebner.leads (y ∷ q) k (same_member ring F pos a member) (λ z. cc) in
+          let s = lead_place G m (g.minimal.groebner.leads (y ∷ q) k (same_member ring F pos a member) (λ z. cc)) in
           let t = lead_there G H g h s.0 s.1 in
           let tg : total (indicator m) (at G i) ≡ indicator m (leading_monomial (at G i)) = at_divided G g i s.0 hi s.1 m s.2 (at G i) refl in
           let th : total (indicator m) (at H j) ≡ indicator m (leading_monomial (at H j)) =

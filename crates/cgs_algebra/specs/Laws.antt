@@ -1,5 +1,6 @@
 -- The laws of ideals and Gröbner bases, as facts.
-use Rattle.std.specs.Prelude.{ℕ, ◌≡◌, ◌<◌, ◌↔◌, ◌⊎◌, List, [], ◌∷◌, ◌++◌, length, slice_index_or, IsTrue}
+use Rattle.std.specs.Prelude.{ℕ, ◌≡◌, ◌<◌, ◌↔◌, ◌⊎◌, List, [], ◌∷◌, ◌++◌, length, slice_index_or, Contains, IsTrue}
+use Rattle.std.specs.List.{AllByRecursion}
 use Rattle.cgs_exps.specs.Monomial.{divides, coprime}
 use Rattle.cgs_poly.specs.declared.ring.Ring.{Ring}
 use Rattle.cgs_poly.specs.Polynomial.{Term, places, IsOfRing, StartsBelow, IsCanonical, canonical, one}
@@ -27,14 +28,12 @@ ProductIsMember =
 -- each generator is a member
 abbrev pub GeneratorIsMember : Type 0
 GeneratorIsMember =
-    (ring : Ring) (F : List (List Term)) (i : ℕ) → 0 < ring.modulus → i < length F → IsOfRing ring (slice_index_or F i [])
-    → IsMember ring F (slice_index_or F i [])
+    (ring : Ring) (F : List (List Term)) (f : List Term) → 0 < ring.modulus → Contains F f → IsOfRing ring f → IsMember ring F f
 
 -- where each generator of one ideal is a member of another, so is each member
 abbrev pub IdealOfMembers : Type 0
 IdealOfMembers =
-    (ring : Ring) (F G : List (List Term)) (f : List Term) → 0 < ring.modulus → ((i : ℕ) → i < length F → IsMember ring G (slice_index_or F i []))
-    → IsMember ring F f → IsMember ring G f
+    (ring : Ring) (F G : List (List Term)) (f : List Term) → 0 < ring.modulus → AllByRecursion (IsMember ring G) F → IsMember ring F f → IsMember ring G f
 
 -- a member stays one where a list is appended to the generators
 abbrev pub MoreGeneratorsKeepMembers : Type 0
@@ -61,8 +60,7 @@ BuchbergersCriterion =
 abbrev pub CompleteIsGroebner : Type 0
 CompleteIsGroebner =
     (ring : Ring) (G F : List (List Term)) → 0 < ring.modulus → AreMonic ring G
-    → ((i : ℕ) → i < length G → IsMember ring F (slice_index_or G i []))
-    → ((i : ℕ) → i < length F → IsMember ring G (slice_index_or F i []))
+    → AllByRecursion (IsMember ring F) G → AllByRecursion (IsMember ring G) F
     → ((i j : ℕ) → i < j → j < length G → HasLcmRepresentation ring G i j) → IsGroebnerBasis ring G F
 
 -- an ideal has at most one reduced Gröbner basis with ascending leads

@@ -1,5 +1,5 @@
 -- When a Gröbner basis stays one at a point of the parameters (Kalkbrener 1997; Kapur, Sun, Wang 2010, theorem 4.3).
-use Rattle.std.specs.Prelude.{ℕ, ◌≡◌, ◌<◌, cond, IsTrue, List, [], ◌∷◌, ◌++◌, length, map, slice_index_or}
+use Rattle.std.specs.Prelude.{ℕ, ◌≡◌, ◌<◌, cond, IsTrue, List, [], ◌∷◌, ◌++◌, map, Any, AllPairs, Contains}
 use Rattle.std.specs.List.{AllByRecursion}
 use Rattle.cgs_field.specs.Prime.{IsField, IsModulus}
 use Rattle.cgs_exps.specs.Monomial.{divides}
@@ -20,12 +20,19 @@ abbrev pub other_members : Ring → List (List Term) → List (List Term)
 other_members ring [] = []
 other_members ring (g ∷ G) = cond (has_no_variables ring g) (other_members ring G) (g ∷ other_members ring G)
 
+-- the variables' part of the lead of a member of M divides m
+abbrev pub SomeLeadXDivides : Ring → List (List Term) → List ℕ → Type 0
+SomeLeadXDivides ring M m = Any (λ g. IsTrue (divides (lead_x ring g) m)) M
+
+-- neither variables' part of a lead divides the other
+abbrev pub HaveLeadsXApart : Ring → List Term → List Term → Type 0
+HaveLeadsXApart ring f g = ¬ IsTrue (divides (lead_x ring f) (lead_x ring g)) × ¬ IsTrue (divides (lead_x ring g) (lead_x ring f))
+
 -- members of K such that the variables' part of each lead of K is divided by that of one of them, and none of theirs by another's
 pub record IsMinimalDicksonBasis (ring : Ring) (M K : List (List Term)) : Type 0 where
-  pub members : (j : ℕ) → j < length M → (i : ℕ) × (i < length K) × (slice_index_or M j [] ≡ slice_index_or K i [])
-  pub divided : (i : ℕ) → i < length K → (j : ℕ) × (j < length M) × IsTrue (divides (lead_x ring (slice_index_or M j [])) (lead_x ring (slice_index_or K i [])))
-  pub apart : (i j : ℕ) → i < length M → j < length M → ¬ (i ≡ j)
-      → ¬ IsTrue (divides (lead_x ring (slice_index_or M i [])) (lead_x ring (slice_index_or M j [])))
+  pub members : AllByRecursion (Contains K) M
+  pub divided : AllByRecursion (λ g. SomeLeadXDivides ring M (lead_x ring g)) K
+  pub apart : AllPairs (HaveLeadsXApart ring) M
 
 -- a Gröbner basis generates the ideal
 abbrev pub GroebnerGenerates : Type 0

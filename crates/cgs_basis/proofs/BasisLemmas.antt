@@ -1,5 +1,6 @@
 -- A basis run that ends has found the reduced Gröbner basis of the generators' ideal.
-use Rattle.std.proofs.Common.{ℕ, ◌≡◌, ◌<◌, List, [], length, get_or, refl, ap, ◌∙◌}
+use Rattle.std.proofs.Common.{ℕ, ◌≡◌, List, refl, ap, ◌∙◌}
+use Rattle.std.specs.List.{AllByRecursion}
 use Rattle.cgs_field.proofs.PrimeLemmas.{modulus_field}
 use Rattle.cgs_poly.specs.declared.ring.Ring.{Ring}
 use Rattle.cgs_poly.specs.Polynomial.{Term, IsRing, IsCanonical}
@@ -22,7 +23,7 @@ followed (done G u) next R left e = record { members = G; units = u; first = ref
 followed (out_of_budget u) next R left e = absurd (cc)
 followed (out_of_degree u) next R left e = absurd (cc)
 
-pub basis_reduced : (ring : Ring) (F R : List (List Term)) (units left : ℕ) → IsRing ring → ((i : ℕ) → i < length F → IsCanonical ring (get_or F i []))
+pub basis_reduced : (ring : Ring) (F R : List (List Term)) (units left : ℕ) → IsRing ring → AllByRecursion (IsCanonical ring) F
     → basis_run ring F units ≡ done R left → IsReduced ring R F × IsAscending ring R
 unfolding basis_run
 basis_reduced ring F R units left r can e =

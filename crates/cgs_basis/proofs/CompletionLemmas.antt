@@ -11,8 +11,10 @@ use Rattle.cgs_algebra.specs.Combination.{IsMember}
 use Rattle.cgs_algebra.specs.Groebner.{AreMonic, IsGroebnerBasis}
 use Rattle.cgs_algebra.specs.SPolynomial.{HasLcmRepresentation, pair_lcm}
 use Rattle.cgs_algebra.proofs.RepresentationLemmas.{lead_at_length}
-use Rattle.cgs_algebra.proofs.MemberLemmas.{zero_member, same_member, sum_member, multiple_member, scaled_member, generator_member}
-use Rattle.cgs_algebra.proofs.GroebnerLemmas.{complete_groebner, monic_member}
+use Rattle.cgs_algebra.proofs.MemberLemmas.{zero_member, same_member, sum_member, multiple_member, scaled_member, generators_inside}
+use Rattle.cgs_algebra.proofs.GroebnerLemmas.{complete_groebner}
+use Rattle.cgs_algebra.proofs.GroebnerLemmas as any
+use Rattle.cgs_algebra.proofs.PlaceLemmas.{member_at}
 use Rattle.cgs_divide.specs.DivisionRun.{divided, is_too_high}
 use Rattle.cgs_divide.specs.Division.{HasDivided}
 use Rattle.cgs_field.specs.Inverse.{inverse}
@@ -31,6 +33,8 @@ use Rattle.cgs_poly.proofs.SameLemmas.{among_place}
 use Rattle.cgs_algebra.proofs.GrowthLemmas.{member_more, last_member}
 use Rattle.cgs_basis.proofs.RepresentedLemmas.{pair_polynomial, pair_canonical, pair_alike, represented_by_division, represented_with_remainder}
 use Rattle.cgs_basis.proofs.StateLemmas.{IsSound, IsSettledAt, AreSettled, pairs_kept, taken_settled, appended_sound, appended_settled, new_waits}
+use Rattle.std.specs.List.{AllByRecursion}
+use Rattle.cgs_list.proofs.ListLemmas.{all_weaker}
 
 -- tests that a run has passed
 
@@ -42,7 +46,7 @@ pub past_degree : (b : Bool) (units : ℕ) (run : ListRun) (R : List (List Term)
 past_degree true units run R left e = absurd (cc)
 past_degree false units run R left e = e
 
-module _ (ring : Ring) (r : IsRing ring) (F : List (List Term)) (can : (i : ℕ) → i < length F → IsCanonical ring (get_or F i [])) where
+module _ (ring : Ring) (r : IsRing ring) (F : List (List Term)) (can : AllByRecursion (IsCanonical ring) F) where
   pos : 0 < ring.modulus
   pos = ring_positive ring r
 
@@ -92,7 +96,8 @@ module _ (ring : Ring) (r : IsRing ring) (F : List (List Term)) (can : (i : ℕ)
           record {
             good = h;
             here =
-                back s.members (subst (λ q. IsMember ring s.members q) i.2 (monic_member ring s.members pos h.sound.monic i.0 i.1));
+                back s.members (subst (λ q. IsMember ring s.members q) i.2
+                (member_at ring s.members s.members (any.monic_inside ring s.members pos h.sound.monic) i.0 i.1));
             before = λ g i. i;
           }
       by_test false e = record {
@@ -104,36 +109,28 @@ module _ (ring : Ring) (r : IsRing ring) (F : List (List Term)) (can : (i : ℕ)
   -- the members generate the ideal of some generators
   record HoldAll (s t : Completion) (H : List (List Term)) : Type 0 where
     good : IsGood t
-    here : (i : ℕ) → i < length H → IsMember ring t.members (get_or H i [])
+    here : AllByRecursion (IsMember ring t.members) H
     before : (g : List Term) → IsMember ring s.members g → IsMember ring t.members g
 
-  generators_held : (H : List (List Term)) (s : Completion) → IsGood s → ((i : ℕ) → i < length H → IsCanonical ring (get_or H i []))
-      → ((i : ℕ) → i < length H → IsMember ring F (get_or H i []))
+  generators_held : (H : List (List Term)) (s : Completion) → IsGood s → AllByRecursion (IsCanonical ring) H → AllByRecursion (IsMember ring F) H
       → HoldAll s (with_generators ring s H) H
-  generators_held [] s h k m = record { good = h; here = λ i l. absurd (omega arith); before = λ g i. i }
+  generators_held [] s h k m = record { good = h; here = tt; before = λ g i. i }
   generators_held (f ∷ H) s h k m =
-      let a = generator_held s f h (k 0 (omega arith)) (m 0 (omega arith)) in
-      let b = generators_held H (with_generator ring s f) a.good (λ i l. k (suc i) (omega arith)) (λ i l. m (suc i) (omega arith)) in
-      record { good = b.good; here = λ i l. by_place i l (b.before f a.here) b.here; before = λ g i. b.before g (a.before g i) }
-    where
-      by_place : (i : ℕ) → i < suc (length H) → IsMember ring (with_generators ring (with_generator ring s f) H).members f
-          → ((j : ℕ) → j < length H → IsMember ring (with_generators ring (with_generator ring s f) H).members (get_or H j []))
-          → IsMember ring (with_generators ring (with_generator ring s f) H).members (get_or (f ∷ H) i [])
-      by_place zero l first rest = first
-      by_place (suc i) l first rest = rest i (omega arith)
+      let a = generator_held s f h k.0 m.0 in
+      let b = generators_held H (with_generator ring s f) a.good k.1 m.1 in
+      record { good = b.good; here = (b.before f a.here, b.here); before = λ g i. b.before g (a.before g i) }
 
   started : HoldAll (record { members = []; pairs = [] }) (start ring F) F
   started =
       generators_held F (record { members = []; pairs = [] })
       (record {
         sound = record {
-          monic = record { canonical = λ i l. absurd (omega arith); monic = λ i l. absurd (omega arith) };
-          inside =
-              λ i l. absurd (omega arith);
+          monic = record { canonical = tt; monic = tt };
+          inside = tt;
           known = λ q w. absurd w;
         };
         settled = record { at = λ i j l k. absurd (omega arith) };
-      }) can (λ i l. generator_member ring F pos i l (canonical_of_ring ring (get_or F i []) (can i l)))
+      }) can (generators_inside ring F pos (all_weaker (IsCanonical ring) (IsOfRing ring) F can (canonical_of_ring ring)))
 
   -- the step of a pair
 
@@ -158,9 +155,9 @@ module _ (ring : Ring) (r : IsRing ring) (F : List (List Term)) (can : (i : ℕ)
         same_member ring F pos (pair_alike ring r G h.sound.monic q.smaller q.larger within_smaller within)
         (sum_member ring F pos (multiple 1 (quotient m (leading_monomial f)) f) (multiple (ring.modulus - 1) (quotient m (leading_monomial g)) g)
         (multiple_member ring F pos 1 (quotient m (leading_monomial f)) f (quotient_length m (leading_monomial f) (places ring) lm lf)
-        (h.sound.inside q.smaller within_smaller))
+        (member_at ring F G h.sound.inside q.smaller within_smaller))
         (multiple_member ring F pos (ring.modulus - 1) (quotient m (leading_monomial g)) g
-        (quotient_length m (leading_monomial g) (places ring) lm lg) (h.sound.inside q.larger within)))
+        (quotient_length m (leading_monomial g) (places ring) lm lg) (member_at ring F G h.sound.inside q.larger within)))
 
     s_canonical : IsCanonical ring (canonical ring (pair_terms ring G q))
     s_canonical = pair_canonical ring r G h.sound.monic q.smaller q.larger within_smaller within
@@ -194,7 +191,7 @@ module _ (ring : Ring) (r : IsRing ring) (F : List (List Term)) (can : (i : ℕ)
   -- the run
 
   run_groebner : (steps : ℕ) (G : List (List Term)) (pairs : List Pair) (units left : ℕ) (R : List (List Term)) → IsGood (record { members = G; pairs = pairs })
-      → ((i : ℕ) → i < length F → IsMember ring G (get_or F i []))
+      → AllByRecursion (IsMember ring G) F
       → completed_in steps ring (record { members = G; pairs = pairs }) units ≡ done R left → AreMonic ring R × IsGroebnerBasis ring R F
   run_groebner zero G pairs units left R h f e = absurd (cc)
   run_groebner (suc steps) G [] units left R h f e =
@@ -215,7 +212,7 @@ module _ (ring : Ring) (r : IsRing ring) (F : List (List Term)) (can : (i : ℕ)
       w.remainder w.quotients (s_canonical G q pairs h) w.divided in
       let t : Completion = with_remainder ring s w.remainder in
       run_groebner steps t.members t.pairs w.units left R (step_good G q pairs h w.remainder w.quotients d)
-      (λ i l. still_inside G q pairs h w.remainder (get_or F i []) (f i l)) w.rest
+      (all_weaker (IsMember ring G) (IsMember ring t.members) F f (still_inside G q pairs h w.remainder)) w.rest
 
   -- a completion that ends has found a Gröbner basis of monic members
   pub completion_groebner : (units left : ℕ) (R : List (List Term)) → completion ring F units ≡ done R left → AreMonic ring R × IsGroebnerBasis ring R F

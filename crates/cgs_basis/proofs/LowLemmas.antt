@@ -65,7 +65,7 @@ module _ (ring : Ring) (r : IsRing ring) where
       generators_held F (record { members = []; pairs = [] })
       (record {
         order = refl;
-        monic = record { canonical = λ i l. absurd (omega arith); monic = λ i l. absurd (omega arith) };
+        monic = record { canonical = tt; monic = tt };
         polys = tt;
         known = λ q w. absurd w;
       }) k

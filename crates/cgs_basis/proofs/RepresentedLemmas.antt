@@ -24,6 +24,7 @@ use Rattle.cgs_divide.proofs.QuotientCombinationLemmas.{summands_of, division_co
 use Rattle.cgs_divide.proofs.MonicLemmas.{monic_canonical, monic_back, monic_lead_same}
 use Rattle.cgs_algebra.proofs.SPolynomialLemmas.{s_terms_of_ring, s_terms_below}
 use Rattle.cgs_algebra.proofs.GrowthLemmas.{combined_more, combination_more, leads_more}
+use Rattle.cgs_algebra.proofs.PlaceLemmas.{canonical_at, monic_at}
 
 module _ (ring : Ring) (r : IsRing ring) (G : List (List Term)) (ok : AreMonic ring G) (i j : ℕ) (hi : i < length G) (hj : j < length G) where
   pos : 0 < ring.modulus
@@ -40,7 +41,8 @@ module _ (ring : Ring) (r : IsRing ring) (G : List (List Term)) (ok : AreMonic r
   pair_polynomial = canonical ring (s_terms ring (get_or G i []) (get_or G j []))
 
   of_ring : IsOfRing ring (s_terms ring f g)
-  of_ring = s_terms_of_ring ring pos f g (ok.canonical i hi) (ok.canonical j hj) (ok.monic i hi) (ok.monic j hj)
+  of_ring = s_terms_of_ring ring pos f g (canonical_at ring G ok.canonical i hi) (canonical_at ring G ok.canonical j hj)
+      (monic_at G ok.monic i hi) (monic_at G ok.monic j hj)
 
   pub pair_canonical : IsCanonical ring pair_polynomial
   pair_canonical = is_canonical ring (s_terms ring f g) pos of_ring
@@ -49,7 +51,8 @@ module _ (ring : Ring) (r : IsRing ring) (G : List (List Term)) (ok : AreMonic r
   pair_alike = canonical_alike ring (s_terms ring f g) pos of_ring
 
   starts : StartsBelow ring (pair_lcm f g) pair_polynomial
-  starts = s_terms_below ring pos f g (ok.canonical i hi) (ok.canonical j hj) (ok.monic i hi) (ok.monic j hj)
+  starts = s_terms_below ring pos f g (canonical_at ring G ok.canonical i hi) (canonical_at ring G ok.canonical j hj)
+      (monic_at G ok.monic i hi) (monic_at G ok.monic j hj)
 
   -- no remainder is left
   pub represented_by_division : (quotients : List (List Term)) → HasDivided ring G pair_polynomial [] quotients → HasLcmRepresentation ring G i j

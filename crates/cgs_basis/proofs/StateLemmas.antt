@@ -14,7 +14,7 @@ use Rattle.cgs_algebra.specs.SPolynomial.{pair_lcm, HasLcmRepresentation}
 use Rattle.cgs_pairs.specs.declared.pair.Pair.{Pair}
 use Rattle.cgs_pairs.specs.PairOrder.{pair, with_pair, PairQueue, IsWaiting}
 use Rattle.cgs_pairs.proofs.PairLemmas.{pair_here, pair_kept, pair_from}
-use Rattle.cgs_divide.proofs.PlaceLemmas.{each_appended}
+use Rattle.std.specs.List.{AllByRecursion}
 use Rattle.cgs_poly.specs.Monic.{monic_of}
 use Rattle.cgs_poly.specs.Same.{is_among}
 use Rattle.cgs_list.proofs.ListLemmas.{all_push}
@@ -55,7 +55,7 @@ pairs_of order g place i (f ∷ G) pairs l h q k =
 
 pub record IsSound (ring : Ring) (F G : List (List Term)) (pairs : List Pair) : Type 0 where
   pub monic : AreMonic ring G
-  pub inside : (i : ℕ) → i < length G → IsMember ring F (get_or G i [])
+  pub inside : AllByRecursion (IsMember ring F) G
   pub known : (q : Pair) → IsWaiting q pairs → IsPairOf (length G) q
 
 -- the pair of two places waits, or has an lcm representation
@@ -89,7 +89,7 @@ module _ (ring : Ring) (F G : List (List Term)) (g : List Term) where
 
   appended_monic : AreMonic ring G → IsCanonical ring g → leading_coefficient g ≡ 1 → AreMonic ring (G ++ g ∷ [])
   appended_monic h can one =
-      record { canonical = each_appended (λ f. IsCanonical ring f) G g h.canonical can; monic = each_appended (λ f. leading_coefficient f ≡ 1) G g h.monic one }
+      record { canonical = all_push (IsCanonical ring) G g h.canonical can; monic = all_push (λ f. leading_coefficient f ≡ 1) G g h.monic one }
 
   appended_known : (pairs : List Pair) → ((q : Pair) → IsWaiting q pairs → IsPairOf (length G) q) → (q : Pair)
       → IsWaiting q (with_pairs (order_of ring) g (length G) 0 G pairs) → IsPairOf (length (G ++ g ∷ [])) q
@@ -102,7 +102,7 @@ module _ (ring : Ring) (F G : List (List Term)) (g : List Term) where
       → IsSound ring F (G ++ g ∷ []) (with_pairs (order_of ring) g (length G) 0 G pairs)
   appended_sound pairs h can one member = record {
     monic = appended_monic h.monic can one;
-    inside = each_appended (λ f. IsMember ring F f) G g h.inside member;
+    inside = all_push (IsMember ring F) G g h.inside member;
     known = appended_known pairs h.known;
   }
 

@@ -1,6 +1,6 @@
 -- A minimal Gröbner basis in ascending order, each member divided by the results before it, becomes the reduced one.
-use Rattle.std.proofs.Common.{ℕ, zero, suc, ◌≡◌, ◌+◌, ◌-◌, ◌*◌, ◌%◌, ◌<◌, ◌⊎◌, inl, inr, true, List, [], ◌∷◌, ◌++◌, length, get_or, take, refl, sym, ap, ◌∙◌}
-use Rattle.std.proofs.Common.{subst, arith}
+use Rattle.std.proofs.Common.{ℕ, zero, suc, ◌≡◌, ◌+◌, ◌-◌, ◌*◌, ◌%◌, ◌<◌, ◌⊎◌, inl, inr, true, IsTrue, List, [], ◌∷◌, ◌++◌, length, get_or, take, refl, sym, ap}
+use Rattle.std.proofs.Common.{◌∙◌, subst, arith}
 use Rattle.std.proofs.Math.Nat.{zero-mod, add-zero, zero-add, mod-eq_of_lt}
 use Rattle.std.proofs.lemmas.Bool.{cases_order}
 use Rattle.std.proofs.lemmas.List.{length-take, get_or-take}
@@ -18,7 +18,7 @@ use Rattle.cgs_poly.proofs.SumLemmas.{only_same, total_append}
 use Rattle.cgs_poly.proofs.CanonicalLemmas.{above_zero, all_below_zero, all_below_canonical, canonical_of_ring}
 use Rattle.cgs_poly.proofs.MultipleLemmas.{monic_not_empty}
 use Rattle.cgs_algebra.specs.Combination.{Summand, combined, IsCombination, IsMember}
-use Rattle.cgs_algebra.specs.Groebner.{AreMonic, IsMinimal, IsReduced, IsAscending, DividesNone, leading_monomial_at}
+use Rattle.cgs_algebra.specs.Groebner.{AreMonic, IsMinimal, IsReduced, IsAscending, SomeLeadDivides, DividesNone, leading_monomial_at}
 use Rattle.cgs_algebra.specs.SPolynomial.{LeadsBelow}
 use Rattle.cgs_algebra.proofs.CombinationLemmas.{scaled_summands, total_scaled_summands}
 use Rattle.cgs_algebra.proofs.MemberLemmas.{same_member, sum_member, scaled_member, combined_member}
@@ -28,6 +28,9 @@ use Rattle.cgs_algebra.proofs.UniquenessLemmas.{divides_none_below}
 use Rattle.cgs_divide.specs.Division.{HasDivided}
 use Rattle.cgs_divide.specs.Autoreduction.{IsDividedAt}
 use Rattle.cgs_divide.proofs.QuotientCombinationLemmas.{summands_of, division_combination, division_sum, division_below}
+use Rattle.std.specs.List.{AllByRecursion}
+use Rattle.cgs_list.proofs.ListLemmas.{all_by_places, all_at_place, all_weaker}
+use Rattle.cgs_algebra.proofs.PlaceLemmas.{canonical_at, member_at, not_zero_at, monic_at, lead_place, lead_at_place, leads_apart, of_two_places}
 
 -- a monic polynomial with the lead m
 pub record HasLead (m : List ℕ) (f : List Term) : Type 0 where
@@ -95,13 +98,15 @@ module _ (ring : Ring) (pos : 0 < ring.modulus) (D : List (List Term)) (ok : Are
       lead_found ring m remainder two h.2 d.canonical_remainder (λ n o. (d.below n o).1) v
 
   pub division_keeps_lead : 1 < ring.modulus → (f remainder : List Term) (quotients : List (List Term)) → IsCanonical ring f → leading_coefficient f ≡ 1
-      → HasDivided ring D f remainder quotients → ((j : ℕ) → j < length D → divides (leading_monomial_at D j) (leading_monomial f) ≡ true → ⊥)
+      → HasDivided ring D f remainder quotients → ¬ SomeLeadDivides D (leading_monomial f)
       → (leading_monomial remainder ≡ leading_monomial f) × (leading_coefficient remainder ≡ 1)
   division_keeps_lead two [] remainder quotients h one d none = absurd (omega arith)
-  division_keeps_lead two (x ∷ f) remainder quotients h one d none = let k = lead_kept two x f remainder quotients h one d none in (k.lead_is, k.one)
+  division_keeps_lead two (x ∷ f) remainder quotients h one d none =
+      let k = lead_kept two x f remainder quotients h one d (λ j l e. none (lead_at_place D x.exponents j l e)) in
+      (k.lead_is, k.one)
 
   -- what is left of a member after a division by members is a member
-  pub remainder_member : (F : List (List Term)) → ((j : ℕ) → j < length D → IsMember ring F (get_or D j []))
+  pub remainder_member : (F : List (List Term)) → AllByRecursion (IsMember ring F) D
       → (f remainder : List Term) (quotients : List (List Term))
       → HasDivided ring D f remainder quotients
       → IsMember ring F f → IsMember ring F remainder
@@ -146,39 +151,41 @@ module _ (ring : Ring) (F K R : List (List Term)) (two : 1 < ring.modulus) (mini
   before_at : (i j : ℕ) → j < i → get_or (take i R) j [] ≡ get_or R j []
   before_at i j h = get_or-take i R j [] h
 
+  all_before : (i : ℕ) → i < length K → (P : List Term → Type 0) → ((j : ℕ) → j < i → P (get_or R j [])) → AllByRecursion P (take i R)
+  all_before i h P each = all_by_places P [] (take i R) (λ j l.
+      let s : j < i = omega (arith, before_length i h) in
+      subst P (sym (before_at i j s)) (each j s))
+
   before_monic : (i : ℕ) → i < length K → ((j : ℕ) → j < i → Settled j) → AreMonic ring (take i R)
   before_monic i h ih = record {
-    canonical = λ j l. let s : j < i = omega (arith, before_length i h) in
-        subst (λ q. IsCanonical ring q) (sym (before_at i j s)) (steps j (omega arith)).divided.canonical_remainder;
-    monic = λ j l. let s : j < i = omega (arith, before_length i h) in subst (λ q. leading_coefficient q ≡ 1) (sym (before_at i j s)) (ih j s).0.one;
+    canonical = all_before i h (IsCanonical ring) (λ j s. (steps j (omega arith)).divided.canonical_remainder);
+    monic = all_before i h (λ q. leading_coefficient q ≡ 1) (λ j s. (ih j s).0.one);
   }
 
   settle : (i : ℕ) → i < length K → ((j : ℕ) → j < i → Settled j) → Settled i
   settle i h ih = by_member (get_or K i []) refl
     where
       by_member : (f : List Term) → f ≡ get_or K i [] → Settled i
-      by_member [] e = absurd (minimal.groebner.not_zero i h (sym e))
+      by_member [] e = absurd (not_zero_at K minimal.groebner.not_zero i h (sym e))
       by_member (x ∷ f) e =
           let q : List (List Term) = (steps i h).quotients in
           let d : HasDivided ring (take i R) (x ∷ f) (get_or R i []) q =
           subst (λ p. HasDivided ring (take i R) p (get_or R i []) q) (sym e) (steps i h).divided in
-          let can : IsCanonical ring (x ∷ f) = subst (λ p. IsCanonical ring p) (sym e) (monic.canonical i h) in
-          let one : x.coefficient ≡ 1 = ap leading_coefficient e ∙ monic.monic i h in
+          let can : IsCanonical ring (x ∷ f) = subst (λ p. IsCanonical ring p) (sym e) (canonical_at ring K monic.canonical i h) in
+          let one : x.coefficient ≡ 1 = ap leading_coefficient e ∙ monic_at K monic.monic i h in
           let kept = lead_kept ring pos (take i R) (before_monic i h ih) two x f (get_or R i []) q can one d (λ j l k. apart (ap leading_monomial e) j l k) in
-          let member : IsMember ring F (x ∷ f) = subst (λ p. IsMember ring F p) (sym e) (minimal.groebner.members i h) in (
+          let member : IsMember ring F (x ∷ f) = subst (λ p. IsMember ring F p) (sym e) (member_at ring F K minimal.groebner.members i h) in (
             record { lead_is = kept.lead_is ∙ ap leading_monomial e; one = kept.one },
-            remainder_member ring pos (take i R) (before_monic i h ih) F inside (x ∷ f) (get_or R i []) q d member,
+            remainder_member ring pos (take i R) (before_monic i h ih) F (all_before i h (IsMember ring F) (λ j s. (ih j s).1))
+                (x ∷ f) (get_or R i []) q d member,
           )
         where
           apart : x.exponents ≡ leading_monomial_at K i → (j : ℕ) → j < length (take i R) → divides (leading_monomial_at (take i R) j) x.exponents ≡ true → ⊥
           apart at j l k =
               let s : j < i = omega (arith, before_length i h) in
               let t : leading_monomial_at (take i R) j ≡ leading_monomial_at K j = ap leading_monomial (before_at i j s) ∙ (ih j s).0.lead_is in
-              minimal.apart j i (omega arith) h (λ z. omega arith)
+              leads_apart K minimal.apart j i (omega arith) h (λ z. omega arith)
               (subst (λ n. divides n (leading_monomial_at K i) ≡ true) t (subst (λ n. divides (leading_monomial_at (take i R) j) n ≡ true) at k))
-
-          inside : (j : ℕ) → j < length (take i R) → IsMember ring F (get_or (take i R) j [])
-          inside j l = let s : j < i = omega (arith, before_length i h) in subst (λ p. IsMember ring F p) (sym (before_at i j s)) (ih j s).1
 
   settled_below : (n i : ℕ) → i < n → i < length K → Settled i
   settled_below zero i l h = absurd (omega arith)
@@ -197,22 +204,27 @@ module _ (ring : Ring) (F K R : List (List Term)) (two : 1 < ring.modulus) (mini
   result_ascending = ascending_by_leads ring K R long lead_same ascending
 
   result_monic : AreMonic ring R
-  result_monic = record { canonical = λ i h. (steps i (within i h)).divided.canonical_remainder; monic = λ i h. (settled i (within i h)).0.one }
+  result_monic = record {
+    canonical = all_by_places (IsCanonical ring) [] R (λ i h. (steps i (within i h)).divided.canonical_remainder);
+    monic = all_by_places (λ g. leading_coefficient g ≡ 1) [] R (λ i h. (settled i (within i h)).0.one);
+  }
 
   result_minimal : IsMinimal ring R F
   result_minimal = record {
     groebner = record {
       canonical = result_monic.canonical;
-      members = λ i h. (settled i (within i h)).1;
-      not_zero = λ i h. monic_not_empty (get_or R i []) (settled i (within i h)).0.one;
+      members = all_by_places (IsMember ring F) [] R (λ i h. (settled i (within i h)).1);
+      not_zero = all_weaker (λ g. leading_coefficient g ≡ 1) (λ g. ¬ (g ≡ [])) R result_monic.monic monic_not_empty;
       leads = λ f k member some.
-          let i = minimal.groebner.leads f k member some in
-          (i.0, omega (arith, long, i.1), subst (λ n. divides n (leading_monomial f) ≡ true) (sym (lead_same i.0 i.1)) i.2);
+          let i = lead_place K (leading_monomial f) (minimal.groebner.leads f k member some) in
+          lead_at_place R (leading_monomial f) i.0 (omega (arith, long, i.1))
+          (subst (λ n. divides n (leading_monomial f) ≡ true) (sym (lead_same i.0 i.1)) i.2);
     };
-    apart = λ i j hi hj n d.
+    apart = of_two_places (λ f g. ¬ IsTrue (divides (leading_monomial f) (leading_monomial g))) R (λ i j hi hj n d.
         let e : divides (leading_monomial_at R i) (leading_monomial_at K j) ≡ true =
         subst (λ q. divides (leading_monomial_at R i) q ≡ true) (lead_same j (within j hj)) d in
-        minimal.apart i j (within i hi) (within j hj) n (subst (λ q. divides q (leading_monomial_at K j) ≡ true) (lead_same i (within i hi)) e);
+        leads_apart K minimal.apart i j (within i hi) (within j hj) n
+        (subst (λ q. divides q (leading_monomial_at K j) ≡ true) (lead_same i (within i hi)) e));
   }
 
   -- an earlier lead divides no monomial of a remainder, and a later one is above all of them
@@ -220,10 +232,11 @@ module _ (ring : Ring) (F K R : List (List Term)) (two : 1 < ring.modulus) (mini
   result_clear i j hi hj (inl e) n = absurd (n e)
   result_clear i j hi hj (inr (inl l)) n =
       subst (λ q. DividesNone (leading_monomial q) (get_or R j [])) (before_at j i l)
-      ((steps j (within j hj)).divided.undivided i (omega (arith, before_length j (within j hj))))
+      (all_at_place (λ g. DividesNone (leading_monomial g) (get_or R j [])) [] (take j R) (steps j (within j hj)).divided.undivided i
+      (omega (arith, before_length j (within j hj))))
   result_clear i j hi hj (inr (inr l)) n =
       let g : List Term = get_or R j [] in
-      let can : IsCanonical ring g = result_monic.canonical j hj in
+      let can : IsCanonical ring g = canonical_at ring R result_monic.canonical j hj in
       let o : compared (order_of ring) (leading_monomial_at R j) (leading_monomial_at R i) ≡ Less = ascending_at ring R result_ascending j i l hi in
       divides_none_below ring (leading_monomial_at R i) g (lead_at_length ring R pos result_monic i hi) (canonical_of_ring ring g can)
       (all_below_canonical ring (leading_monomial_at R i) g can (starts (leading_monomial_at R i) g o))
@@ -233,5 +246,11 @@ module _ (ring : Ring) (F K R : List (List Term)) (two : 1 < ring.modulus) (mini
       starts m (x ∷ f) o = o
 
   pub autoreduced : IsReduced ring R F × IsAscending ring R
-  autoreduced =
-      (record { minimal = result_minimal; monic = result_monic; reduced = λ i j hi hj n. result_clear i j hi hj (cases_order i j) n }, result_ascending)
+  autoreduced = (
+    record {
+      minimal = result_minimal;
+      monic = result_monic;
+      reduced = of_two_places (λ f g. DividesNone (leading_monomial f) g) R (λ i j hi hj n. result_clear i j hi hj (cases_order i j) n);
+    },
+    result_ascending,
+  )

@@ -18,6 +18,8 @@ use Rattle.cgs_divide.proofs.DivisionLemmas.{divided_divides}
 use Rattle.cgs_divide.proofs.AutoreductionLemmas.{HasLead, lead_kept, autoreduced}
 use Rattle.cgs_divide.proofs.MonicLemmas.{monic_itself}
 use Rattle.cgs_divide.proofs.MinimalLemmas.{members_ascending, members_monic, members_apart, members_minimal}
+use Rattle.cgs_list.proofs.ListLemmas.{all_by_places}
+use Rattle.cgs_algebra.proofs.PlaceLemmas.{canonical_at, monic_at}
 
 -- a run that goes on after a division and ends with a list
 pub record WentOn (run : division.Run) (next : List Term → ℕ → ListRun) (S : List (List Term)) (left : ℕ) : Type 0 where
@@ -39,13 +41,16 @@ pub record AreResults (ring : Ring) (A R : List (List Term)) : Type 0 where
   pub leads : (i : ℕ) → i < length R → HasLead (leading_monomial_at A i) (get_or R i [])
   pub steps : (i : ℕ) → i < length R → IsDividedAt ring A R i
 
+pub results_monic : (ring : Ring) (A R : List (List Term)) → AreResults ring A R → AreMonic ring R
+results_monic ring A R h = record {
+  canonical = all_by_places (IsCanonical ring) [] R (λ i l. (h.steps i l).divided.canonical_remainder);
+  monic = all_by_places (λ g. leading_coefficient g ≡ 1) [] R (λ i l. (h.leads i l).one);
+}
+
 module _ (ring : Ring) (r : IsRing ring) (two : 1 < ring.modulus) (A : List (List Term)) (monic : AreMonic ring A)
     (apart : (i j : ℕ) → i < length A → j < length A → (i ≡ j → ⊥) → divides (leading_monomial_at A i) (leading_monomial_at A j) ≡ true → ⊥) where
   pos : 0 < ring.modulus
   pos = omega arith
-
-  results_monic : (R : List (List Term)) → AreResults ring A R → AreMonic ring R
-  results_monic R h = record { canonical = λ i l. (h.steps i l).divided.canonical_remainder; monic = λ i l. (h.leads i l).one }
 
   -- the result of the next member
   pub record IsNext (R : List (List Term)) (f remainder : List Term) : Type 0 where
@@ -57,11 +62,11 @@ module _ (ring : Ring) (r : IsRing ring) (two : 1 < ring.modulus) (A : List (Lis
       → AreResults ring A R → length R < length A → get_or A (length R) [] ≡ f
       → division.divided ring R units f ≡ division.done remainder quotients left → IsNext R f remainder
   next_found R [] remainder quotients units left h l e d =
-      let z : leading_coefficient [] ≡ 1 = ap leading_coefficient (sym e) ∙ monic.monic (length R) l in absurd (omega arith)
+      let z : leading_coefficient [] ≡ 1 = ap leading_coefficient (sym e) ∙ monic_at A monic.monic (length R) l in absurd (omega arith)
   next_found R (x ∷ f) remainder quotients units left h l e d =
-      let can : IsCanonical ring (x ∷ f) = subst (λ q. IsCanonical ring q) e (monic.canonical (length R) l) in
-      let one : x.coefficient ≡ 1 = ap leading_coefficient (sym e) ∙ monic.monic (length R) l in
-      let ok : AreMonic ring R = results_monic R h in
+      let can : IsCanonical ring (x ∷ f) = subst (λ q. IsCanonical ring q) e (canonical_at ring A monic.canonical (length R) l) in
+      let one : x.coefficient ≡ 1 = ap leading_coefficient (sym e) ∙ monic_at A monic.monic (length R) l in
+      let ok : AreMonic ring R = results_monic ring A R h in
       let found : HasDivided ring R (x ∷ f) remainder quotients = divided_divides ring R pos ok units left (x ∷ f) remainder quotients can d in
       record {
         quotients = quotients;

@@ -1,8 +1,8 @@
 -- What a division run that ends with a remainder has found.
-use Rattle.std.proofs.Common.{ℕ, zero, suc, ◌≡◌, ◌+◌, ◌-◌, ◌*◌, ◌%◌, ◌<◌, ◌≤◌, ◌⊎◌, inl, inr, Bool, true, false, cond, ltb, List, [], ◌∷◌, ◌++◌, length, get_or}
+use Rattle.std.proofs.Common.{ℕ, zero, suc, ◌≡◌, ◌+◌, ◌-◌, ◌*◌, ◌%◌, ◌<◌, ◌≤◌, Bool, true, false, cond, ltb, List, [], ◌∷◌, ◌++◌, length, get_or}
 use Rattle.std.proofs.Common.{refl, sym, ap, ◌∙◌, subst, arith}
 use Rattle.std.proofs.Math.Nat.{zero-mod, add-zero, mul-mod_right, mul-one}
-use Rattle.std.proofs.lemmas.Bool.{ltb-true, ltb-false, cases_eq}
+use Rattle.std.proofs.lemmas.Bool.{ltb-true, ltb-false}
 use Rattle.std.specs.declared.cmp.Ordering.TheVariants.{Less}
 use Rattle.cgs_field.proofs.ModularLemmas.{mod_add}
 use Rattle.cgs_exps.specs.Monomial.{degree, product, divides, quotient}
@@ -17,13 +17,16 @@ use Rattle.cgs_poly.proofs.CanonicalLemmas.{canonical_starts, canonical_low, app
 use Rattle.cgs_poly.proofs.ProductLemmas.{total_multiple, multiple_of_ring, low_any}
 use Rattle.cgs_poly.proofs.MultipleLemmas.{multiple_falls}
 use Rattle.cgs_poly.proofs.ProductOrderLemmas.{compared_shift}
-use Rattle.cgs_algebra.specs.Groebner.{AreMonic, leading_monomial_at}
+use Rattle.cgs_algebra.specs.Groebner.{AreMonic, DividesNone, leading_monomial_at}
 use Rattle.cgs_algebra.proofs.RepresentationLemmas.{lead_at_length}
 use Rattle.cgs_divide.specs.DivisionRun.{Run, done, out_of_budget, out_of_degree, first_divisor, is_too_high, less_multiple, charged, with_remainder}
 use Rattle.cgs_divide.specs.DivisionRun.{with_quotient, added_at, divided_in, divided}
 use Rattle.cgs_divide.specs.Division.{products, TermsBelow, HasDivided}
-use Rattle.cgs_divide.proofs.QuotientLemmas.{divisor_divides, none_divides, not_too_high, added_length, added_here, added_elsewhere, total_added, below_added}
-use Rattle.cgs_divide.proofs.QuotientLemmas.{below_at, zeros, zeros_length, zeros_at, zeros_products, zeros_below}
+use Rattle.cgs_divide.proofs.QuotientLemmas.{divisor_divides, none_divides, not_too_high, added_length, total_added, below_added}
+use Rattle.cgs_divide.proofs.QuotientLemmas.{below_at, zeros, zeros_length, zeros_products, zeros_below}
+use Rattle.std.specs.List.{AllByRecursion}
+use Rattle.cgs_list.proofs.ListLemmas.{all_by_places, all_at_place}
+use Rattle.cgs_algebra.proofs.PlaceLemmas.{canonical_at, monic_at}
 
 -- f - c*t*g
 
@@ -80,6 +83,18 @@ less_starts ring x f (z ∷ g) t pos h k o l e =
         ∙ (mod_add ring.modulus S S (x.coefficient * v + d * v) 0 refl (mod_rest ring.modulus x.coefficient v h.1 ∙ sym (zero-mod ring.modulus))
         ∙ ap (λ n. n % ring.modulus) (add-zero S)))
 
+-- what holds of each quotient
+
+all_zeros : (P : List Term → Type 0) → P [] → (G : List (List Term)) → AllByRecursion P (zeros G)
+all_zeros P at [] = tt
+all_zeros P at (g ∷ G) = (at, all_zeros P at G)
+
+all_added : (P : List Term → Type 0) (i : ℕ) (y : Term) (quotients : List (List Term)) → P (y ∷ get_or quotients i []) → AllByRecursion P quotients
+    → AllByRecursion P (added_at i y quotients)
+all_added P i y [] here all = tt
+all_added P zero y (q ∷ quotients) here all = (here, all.1)
+all_added P (suc i) y (q ∷ quotients) here all = (all.0, all_added P i y quotients here all.1)
+
 -- the ways a run ends with a remainder
 
 by_cond : (b : Bool) (A B D : Run) (Goal : Type 0) → cond b A B ≡ D → (b ≡ true → A ≡ D → Goal) → (b ≡ false → B ≡ D → Goal) → Goal
@@ -105,12 +120,12 @@ module _ (ring : Ring) (G : List (List Term)) (pos : 0 < ring.modulus) (ok : Are
   nothing_left = record {
     places = zeros_length G;
     sum = coefficients_from_alike (rw (zeros_products G) (alike_same ring.modulus []));
-    undivided = λ i l. tt;
+    undivided = all_by_places (λ g. DividesNone (leading_monomial g) []) [] G (λ i l. tt);
     below = λ m s. (zeros_below ring m G, tt);
     canonical_remainder = tt;
-    canonical_quotients = λ i l. rw (zeros_at G i) tt;
+    canonical_quotients = all_zeros (IsCanonical ring) tt G;
     low_remainder = λ h. tt;
-    low_quotients = λ h i l. rw (zeros_at G i) tt;
+    low_quotients = λ h. all_zeros HasLowDegrees tt G;
   }
 
   -- no lead divides the leading term
@@ -126,7 +141,10 @@ module _ (ring : Ring) (G : List (List Term)) (pos : 0 < ring.modulus) (ok : Are
           mod_add ring.modulus (x.coefficient * w x.exponents) (x.coefficient * w x.exponents) (total w f) (total w (products quotients G ++ remainder)) refl a
           ∙ ap (λ n. n % ring.modulus) b;
     });
-    undivided = λ i l. (none_divides G x.exponents none i l, d.undivided i l);
+    undivided = all_by_places (λ g. DividesNone (leading_monomial g) (x ∷ remainder)) [] G (λ i l. (
+      none_divides G x.exponents none i l,
+      all_at_place (λ g. DividesNone (leading_monomial g) remainder) [] G d.undivided i l,
+    ));
     below = λ m s. ((d.below m (starts_lower ring x.exponents m f h.3 s)).0, s);
     canonical_remainder = (h.0, h.1, h.2, (d.below x.exponents h.3).1, d.canonical_remainder);
     canonical_quotients = d.canonical_quotients;
@@ -159,13 +177,13 @@ module _ (ring : Ring) (G : List (List Term)) (pos : 0 < ring.modulus) (ok : Are
   whole = quotient_product x.exponents (leading_monomial g) (h.2 ∙ sym lead_long) divisible
 
   rest_of_ring : IsOfRing ring ((x ∷ f) ++ multiple (ring.modulus - x.coefficient) t g)
-  rest_of_ring = less_of_ring ring (ring.modulus - x.coefficient) t (x ∷ f) g t_long h (ok.canonical i l)
+  rest_of_ring = less_of_ring ring (ring.modulus - x.coefficient) t (x ∷ f) g t_long h (canonical_at ring G ok.canonical i l)
 
   rest_canonical : IsCanonical ring rest
   rest_canonical = is_canonical ring ((x ∷ f) ++ multiple (ring.modulus - x.coefficient) t g) pos rest_of_ring
 
   rest_starts : StartsBelow ring x.exponents rest
-  rest_starts = less_starts ring x f g t pos h (ok.canonical i l) (ok.monic i l) t_long whole
+  rest_starts = less_starts ring x f g t pos h (canonical_at ring G ok.canonical i l) (monic_at G ok.monic i l) t_long whole
 
   rest_low : is_too_high (multiple x.coefficient t g) ≡ false → HasLowDegrees (x ∷ f) → HasLowDegrees rest
   rest_low low k =
@@ -203,16 +221,6 @@ module _ (ring : Ring) (G : List (List Term)) (pos : 0 < ring.modulus) (ok : Are
       ) in
       a ∙ (e ∙ ap (λ n. n % ring.modulus) z)
 
-  -- the quotient at each place, with the new term
-  at_places : (P : List Term → Type 0) (quotients : List (List Term)) → length quotients ≡ length G
-      → P (y ∷ get_or quotients i []) → (j : ℕ) → P (get_or quotients j [])
-      → P (get_or (added_at i y quotients) j [])
-  at_places P quotients e here j there = by_place (cases_eq i j)
-    where
-      by_place : (i ≡ j) ⊎ (i ≡ j → ⊥) → P (get_or (added_at i y quotients) j [])
-      by_place (inl s) = subst (λ n. P (get_or (added_at i y quotients) n [])) s (rw (added_here i y quotients (omega arith)) here)
-      by_place (inr n) = rw (added_elsewhere i j y quotients n) there
-
   -- a lead divides the leading term
   term_taken : (remainder : List Term) (quotients : List (List Term)) → is_too_high (multiple x.coefficient t g) ≡ false
       → HasDivided ring G rest remainder quotients → HasDivided ring G (x ∷ f) remainder (added_at i y quotients)
@@ -224,18 +232,15 @@ module _ (ring : Ring) (G : List (List Term)) (pos : 0 < ring.modulus) (ok : Are
         let b = d.below m (starts_lower ring x.exponents m rest rest_starts s) in
         (below_added ring m i y quotients G d.places l (subst (λ n. compared (order_of ring) n m ≡ Less) (sym whole) s) b.0, b.1);
     canonical_remainder = d.canonical_remainder;
-    canonical_quotients = λ j k.
-        at_places (λ q. IsCanonical ring q) quotients d.places (
-          h.0,
-          h.1,
-          t_long,
-          y_starts (get_or quotients i []) (d.canonical_quotients i l)
-              (below_at ring x.exponents i quotients G d.places l (d.below x.exponents rest_starts).0),
-          d.canonical_quotients i l,
-        ) j (d.canonical_quotients j k);
+    canonical_quotients =
+        let k : i < length quotients = omega (arith, d.places) in
+        let q : IsCanonical ring (get_or quotients i []) = canonical_at ring quotients d.canonical_quotients i k in
+        let s = y_starts (get_or quotients i []) q (below_at ring x.exponents i quotients G d.places l (d.below x.exponents rest_starts).0) in
+        all_added (IsCanonical ring) i y quotients (h.0, h.1, t_long, s, q) d.canonical_quotients;
     low_remainder = λ k. d.low_remainder (rest_low low k);
-    low_quotients = λ k j o.
-        at_places HasLowDegrees quotients d.places (t_low k, d.low_quotients (rest_low low k) i l) j (d.low_quotients (rest_low low k) j o);
+    low_quotients = λ k.
+        let all = d.low_quotients (rest_low low k) in
+        all_added HasLowDegrees i y quotients (t_low k, all_at_place HasLowDegrees [] quotients all i (omega (arith, d.places))) all;
   }
 
   -- the same for the run

@@ -1,4 +1,5 @@
 -- The members whose leads no other lead properly divides: a minimal basis with ascending leads.
+use Rattle.std.proofs.Common.{IsTrue}
 use Rattle.std.proofs.Common.{ℕ, zero, suc, ◌≡◌, ◌<◌, ◌≤◌, ◌⊎◌, inl, inr, Bool, true, false, cond, not, ◌&&◌, ◌||◌, leb, List, [], ◌∷◌, length, get_or, refl}
 use Rattle.std.proofs.Common.{sym, ap, ◌∙◌, subst, arith}
 use Rattle.std.proofs.lemmas.Bool.{cases_order, and_parts, and_from, leb-true, leb-false, le-leb}
@@ -17,6 +18,9 @@ use Rattle.cgs_algebra.specs.Groebner.{AreMonic, IsGroebnerBasis, IsMinimal, IsA
 use Rattle.cgs_algebra.proofs.AscendingLemmas.{ascending_at}
 use Rattle.cgs_algebra.proofs.RepresentationLemmas.{lead_at_length}
 use Rattle.cgs_divide.specs.AutoreductionRun.{divides_properly, has_proper_divisor, placed, with_minimal, minimal_members}
+use Rattle.std.specs.List.{AllByRecursion}
+use Rattle.cgs_list.proofs.ListLemmas.{all_by_places, all_at_place}
+use Rattle.cgs_algebra.proofs.PlaceLemmas.{lead_place, lead_at_place, of_two_places}
 
 -- f is a member of G
 abbrev IsIn : List Term → List (List Term) → Type 0
@@ -242,11 +246,12 @@ module _ (ring : Ring) (G : List (List Term)) (pos : 0 < ring.modulus) (ok : Are
   member_at : (i : ℕ) → i < length K → IsIn (get_or K i []) G × (has_proper_divisor G (leading_monomial_at K i) ≡ false)
   member_at i l = minimal_from (get_or K i []) (in_at K i l)
 
+  -- what holds of all members holds of those that are kept
+  pub each_kept : (P : List Term → Type 0) → AllByRecursion P G → AllByRecursion P K
+  each_kept P all = all_by_places P [] K (λ i l. let j = place_of (get_or K i []) G (member_at i l).0 in subst P j.2 (all_at_place P [] G all j.0 j.1))
+
   pub members_monic : AreMonic ring K
-  members_monic = record {
-    canonical = λ i l. let j = place_of (get_or K i []) G (member_at i l).0 in subst (λ q. IsCanonical ring q) j.2 (ok.canonical j.0 j.1);
-    monic = λ i l. let j = place_of (get_or K i []) G (member_at i l).0 in subst (λ q. leading_coefficient q ≡ 1) j.2 (ok.monic j.0 j.1);
-  }
+  members_monic = record { canonical = each_kept (IsCanonical ring) ok.canonical; monic = each_kept (λ g. leading_coefficient g ≡ 1) ok.monic }
 
   -- no lead divides the lead at another place
   pub members_apart : (i j : ℕ) → i < length K → j < length K → (i ≡ j → ⊥) → divides (leading_monomial_at K i) (leading_monomial_at K j) ≡ true → ⊥
@@ -279,17 +284,17 @@ module _ (ring : Ring) (G : List (List Term)) (pos : 0 < ring.modulus) (ok : Are
   members_minimal F h = record {
     groebner = record {
       canonical = members_monic.canonical;
-      members = λ i l. let j = place_of (get_or K i []) G (member_at i l).0 in subst (λ q. IsMember ring F q) j.2 (h.members j.0 j.1);
-      not_zero = λ i l e. let j = place_of (get_or K i []) G (member_at i l).0 in h.not_zero j.0 j.1 (j.2 ∙ e);
+      members = each_kept (IsMember ring F) h.members;
+      not_zero = each_kept (λ g. ¬ (g ≡ [])) h.not_zero;
       leads = λ f k member some.
-          let i = h.leads f k member some in
+          let i = lead_place G (leading_monomial f) (h.leads f k member some) in
           let c = covered (get_or G i.0 []) (in_at G i.0 i.1) in
           let j = place_of c.0 K c.1 in
           let same : length (leading_monomial c.0) ≡ length (leading_monomial_at G i.0) =
           lead_long c.0 (minimal_from c.0 c.1).0 ∙ sym (lead_at_length ring G pos ok i.0 i.1) in
           let d : divides (leading_monomial c.0) (leading_monomial f) ≡ true =
           divides_trans (leading_monomial c.0) (leading_monomial_at G i.0) (leading_monomial f) same c.2 i.2 in
-          (j.0, j.1, subst (λ q. divides (leading_monomial q) (leading_monomial f) ≡ true) (sym j.2) d);
+          lead_at_place K (leading_monomial f) j.0 j.1 (subst (λ q. divides (leading_monomial q) (leading_monomial f) ≡ true) (sym j.2) d);
     };
-    apart = members_apart;
+    apart = of_two_places (λ f g. ¬ IsTrue (divides (leading_monomial f) (leading_monomial g))) K members_apart;
   }

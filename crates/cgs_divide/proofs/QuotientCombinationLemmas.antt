@@ -10,6 +10,7 @@ use Rattle.cgs_algebra.specs.Groebner.{leading_monomial_at}
 use Rattle.cgs_algebra.specs.SPolynomial.{LeadsBelow}
 use Rattle.cgs_algebra.proofs.CombinationLemmas.{combined_append, combination_append, leads_append}
 use Rattle.cgs_divide.specs.Division.{products, TermsBelow, MultiplesBelow, HasDivided}
+use Rattle.cgs_algebra.proofs.PlaceLemmas.{canonical_at}
 
 -- q times the polynomial at a place
 abbrev quotient_summands : List Term → ℕ → List Summand
@@ -67,7 +68,7 @@ summands_of quotients = summands_from 0 quotients
 
 module _ (ring : Ring) (G : List (List Term)) (f remainder : List Term) (quotients : List (List Term)) (d : HasDivided ring G f remainder quotients) where
   pub division_combination : IsCombination ring G (summands_of quotients)
-  division_combination = combination_from ring G 0 quotients (omega (arith, d.places)) (λ j k. d.canonical_quotients j (omega (arith, d.places)))
+  division_combination = combination_from ring G 0 quotients (omega (arith, d.places)) (canonical_at ring quotients d.canonical_quotients)
 
   pub division_sum : 0 < ring.modulus → Alike ring.modulus f (combined G (summands_of quotients) ++ remainder)
   division_sum pos = rw (combined_from G 0 quotients (omega (arith, d.places))) (alike_from_coefficients pos d.sum)

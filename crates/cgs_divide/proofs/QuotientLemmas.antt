@@ -61,18 +61,6 @@ added_length i x [] = refl
 added_length zero x (q ∷ quotients) = refl
 added_length (suc i) x (q ∷ quotients) = ap suc (added_length i x quotients)
 
-pub added_here : (i : ℕ) (x : Term) (quotients : List (List Term)) → i < length quotients → get_or (added_at i x quotients) i [] ≡ x ∷ get_or quotients i []
-added_here i x [] h = absurd (omega arith)
-added_here zero x (q ∷ quotients) h = refl
-added_here (suc i) x (q ∷ quotients) h = added_here i x quotients (omega arith)
-
-pub added_elsewhere : (i j : ℕ) (x : Term) (quotients : List (List Term)) → (i ≡ j → ⊥) → get_or (added_at i x quotients) j [] ≡ get_or quotients j []
-added_elsewhere i j x [] n = refl
-added_elsewhere zero zero x (q ∷ quotients) n = absurd (n refl)
-added_elsewhere zero (suc j) x (q ∷ quotients) n = refl
-added_elsewhere (suc i) zero x (q ∷ quotients) n = refl
-added_elsewhere (suc i) (suc j) x (q ∷ quotients) n = added_elsewhere i j x quotients (λ e. n (ap suc e))
-
 pub total_added : (w : List ℕ → ℕ) (i : ℕ) (x : Term) (quotients G : List (List Term)) → length quotients ≡ length G → i < length G
     → total w (products (added_at i x quotients) G) ≡ total w (multiple x.coefficient x.exponents (get_or G i [])) + total w (products quotients G)
 total_added w i x [] G l h = absurd (omega arith)

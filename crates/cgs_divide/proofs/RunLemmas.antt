@@ -9,6 +9,7 @@ use Rattle.cgs_algebra.specs.Groebner.{AreMonic}
 use Rattle.cgs_divide.specs.DivisionRun.{Run, done, out_of_budget, out_of_degree, first_divisor, is_too_high, less_multiple, charged, with_remainder}
 use Rattle.cgs_divide.specs.DivisionRun.{with_quotient, divided_in, divided}
 use Rattle.cgs_divide.proofs.QuotientLemmas.{zeros}
+use Rattle.cgs_algebra.proofs.PlaceLemmas.{monic_at}
 
 charged_same : (cost units : ℕ) (a b : Run) → (cost ≤ units → a ≡ b) → charged cost units a ≡ charged cost units b
 charged_same cost units a b h = by_test (ltb units cost) refl
@@ -49,7 +50,7 @@ module _ (ring : Ring) (G : List (List Term)) (ok : AreMonic ring G) where
           (charged 1 units (with_remainder x (divided_in m ring G (units - 1) f)))
       by_test true e ih =
           let i : ℕ = first_divisor G x.exponents in
-          let s : 0 < length (get_or G i []) = monic_some (get_or G i []) (ok.monic i (ltb-true i (length G) e)) in
+          let s : 0 < length (get_or G i []) = monic_some (get_or G i []) (monic_at G ok.monic i (ltb-true i (length G) e)) in
           charged_same (length (get_or G i [])) units _ _ (λ c. rw (ih (units - length (get_or G i [])) (left_by i x f) (omega arith) (omega arith)) refl)
       by_test false e ih = charged_same 1 units _ _ (λ c. rw (ih (units - 1) f (omega arith) (omega arith)) refl)
 
@@ -72,7 +73,7 @@ module _ (ring : Ring) (G : List (List Term)) (ok : AreMonic ring G) where
   divided_taken units i x f at l =
       let e : ltb i (length G) ≡ true = lt-ltb i (length G) l in
       let g : List Term = get_or G i [] in
-      let s : 0 < length g = monic_some g (ok.monic i l) in
+      let s : 0 < length g = monic_some g (monic_at G ok.monic i l) in
       rw (at, e) (charged_same (length g) units _ _ (λ c.
       rw (enough_steps units (suc (units - length g)) (units - length g) (left_by i x f) (omega arith) (omega arith)) refl))
 

@@ -1,12 +1,13 @@
 -- What a division of a polynomial by a list of polynomials finds (Cox, Little, O'Shea, chapter 2, section 3, theorem 3).
-use Rattle.std.specs.Prelude.{ℕ, ◌≡◌, ◌<◌, List, [], ◌∷◌, ◌++◌, length, slice_index_or}
+use Rattle.std.specs.Prelude.{ℕ, ◌≡◌, List, [], ◌∷◌, ◌++◌, length}
+use Rattle.std.specs.List.{AllByRecursion}
 use Rattle.std.specs.declared.cmp.Ordering.TheVariants.{Less}
 use Rattle.cgs_exps.specs.Monomial.{product}
 use Rattle.cgs_order.specs.TermOrder.{compared}
 use Rattle.cgs_poly.specs.declared.ring.Ring.{Ring}
 use Rattle.cgs_poly.specs.Polynomial.{Term, order_of, IsCanonical, StartsBelow, SameCoefficients, HasLowDegrees}
 use Rattle.cgs_poly.specs.Product.{all_products, leading_monomial}
-use Rattle.cgs_algebra.specs.Groebner.{leading_monomial_at, DividesNone}
+use Rattle.cgs_algebra.specs.Groebner.{DividesNone}
 
 -- the terms of the sum of quotients times divisors
 abbrev pub products : List (List Term) → List (List Term) → List Term
@@ -30,9 +31,9 @@ MultiplesBelow ring m (q ∷ quotients) (g ∷ G) = TermsBelow ring m (leading_m
 pub record HasDivided (ring : Ring) (G : List (List Term)) (f remainder : List Term) (quotients : List (List Term)) : Type 0 where
   pub places : length quotients ≡ length G
   pub sum : SameCoefficients ring.modulus f (products quotients G ++ remainder)
-  pub undivided : (i : ℕ) → i < length G → DividesNone (leading_monomial_at G i) remainder
+  pub undivided : AllByRecursion (λ g. DividesNone (leading_monomial g) remainder) G
   pub below : (m : List ℕ) → StartsBelow ring m f → MultiplesBelow ring m quotients G × StartsBelow ring m remainder
   pub canonical_remainder : IsCanonical ring remainder
-  pub canonical_quotients : (i : ℕ) → i < length G → IsCanonical ring (slice_index_or quotients i [])
+  pub canonical_quotients : AllByRecursion (IsCanonical ring) quotients
   pub low_remainder : HasLowDegrees f → HasLowDegrees remainder
-  pub low_quotients : HasLowDegrees f → (i : ℕ) → i < length G → HasLowDegrees (slice_index_or quotients i [])
+  pub low_quotients : HasLowDegrees f → AllByRecursion HasLowDegrees quotients

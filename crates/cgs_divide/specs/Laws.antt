@@ -1,10 +1,9 @@
 -- The laws of division, as facts.
-use Rattle.std.specs.Prelude.{ℕ, ◌≡◌, ◌<◌, List, length, IsTrue}
-use Rattle.cgs_exps.specs.Monomial.{divides}
+use Rattle.std.specs.Prelude.{ℕ, ◌≡◌, ◌<◌, List, length}
 use Rattle.cgs_poly.specs.declared.ring.Ring.{Ring}
 use Rattle.cgs_poly.specs.Polynomial.{Term, IsRing, IsCanonical}
 use Rattle.cgs_poly.specs.Product.{leading_monomial, leading_coefficient}
-use Rattle.cgs_algebra.specs.Groebner.{AreMonic, IsGroebnerBasis, IsMinimal, IsReduced, IsAscending, leading_monomial_at}
+use Rattle.cgs_algebra.specs.Groebner.{AreMonic, IsGroebnerBasis, IsMinimal, IsReduced, IsAscending, SomeLeadDivides}
 use Rattle.cgs_divide.specs.DivisionRun.{divided, done}
 use Rattle.cgs_divide.specs.Division.{HasDivided}
 use Rattle.cgs_divide.specs.AutoreductionRun.{autoreduction}
@@ -23,7 +22,7 @@ abbrev pub DivisionKeepsLead : Type 0
 DivisionKeepsLead =
     (ring : Ring) (D : List (List Term)) (f remainder : List Term) (quotients : List (List Term)) → 1 < ring.modulus → AreMonic ring D → IsCanonical ring f
     → leading_coefficient f ≡ 1 → HasDivided ring D f remainder quotients
-    → ((j : ℕ) → j < length D → ¬ IsTrue (divides (leading_monomial_at D j) (leading_monomial f)))
+    → ¬ SomeLeadDivides D (leading_monomial f)
     → (leading_monomial remainder ≡ leading_monomial f) × (leading_coefficient remainder ≡ 1)
 
 -- a minimal basis of monic members in ascending order, each of them divided by the results before it, becomes the reduced one

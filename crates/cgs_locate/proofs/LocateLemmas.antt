@@ -3,18 +3,16 @@ use Rattle.std.proofs.Common.{ℕ, zero, suc, ◌≡◌, ◌+◌, ◌<◌, Bool,
 use Rattle.std.specs.Prelude.{slice_get}
 use Rattle.cgs_list.proofs.ListLemmas.{all_at, drop_at}
 use Rattle.cgs_poly.specs.declared.ring.Ring.{Ring}
-use Rattle.cgs_poly.specs.Polynomial.{Term}
-use Rattle.cgs_point.specs.Points.{IsPoint}
 use Rattle.cgs_entry.specs.declared.entry.Entry.{Entry}
-use Rattle.cgs_entry.specs.declared.entry.EntryKind.{EntryKind}
-use Rattle.cgs_entry.specs.declared.entry.EntryKind.TheVariants.{Solved, Refused}
+use Rattle.cgs_entry.specs.Bases.{basis_of}
 use Rattle.cgs_entry.specs.Conditions.{IsInRegion, is_in_region}
-use Rattle.cgs_entry.specs.Entries.{IsSound, IsBasisAt, is_refused}
+use Rattle.cgs_entry.specs.Entries.{IsSound}
 use Rattle.cgs_entry.specs.Laws.{LiesAt}
+use Rattle.cgs_entry.proofs.BasisLemmas.{sound_at}
 use Rattle.cgs_entry.proofs.ConditionLemmas.{region_decides}
 use Rattle.cgs_entry.proofs.CoverLemmas.{met_points_lie_in_one, other_points_lie_in_none}
 use Rattle.cgs_locate.specs.declared.search.Located.{Located}
-use Rattle.cgs_locate.specs.Located.{basis_of, basis_at, located, located_from}
+use Rattle.cgs_locate.specs.Located.{basis_at, located, located_from}
 use Rattle.cgs_locate.specs.Laws.{IsFirst, FoundIsFirst, NoneHasPoint, NowhereOutside, BasisServes}
 use Rattle.cgs_locate.proofs.MonicLemmas.{basis_serves_at}
 
@@ -117,13 +115,6 @@ nowhere_outside ring given other polys entries point c p = (
     by_answer outside (Some found) e =
         let first = found_is_first ring entries point found e in
         absurd (outside (other_points_lie_in_none ring given other polys entries point found.index c p first.lies))
-
--- the basis of a solved entry is one at each point of its region
-sound_at : (ring : Ring) (polys : List (List Term)) (point : List ℕ) (entry : Entry) → IsSound ring polys entry → IsPoint ring point
-    → IsInRegion ring entry.conditions.zero entry.conditions.nonzero point → (kind : EntryKind) → entry.kind ≡ kind → is_refused entry ≡ false
-    → IsBasisAt ring point polys (basis_of kind)
-sound_at ring polys point entry sound p inside (Solved basis tested) e n = (rw e at sound) point p inside
-sound_at ring polys point entry sound p inside (Refused cause) e n = absurd (let m = rw e at n in cc)
 
 pub basis_serves : BasisServes
 basis_serves ring given other polys entries point entry found r c p e stands solved =

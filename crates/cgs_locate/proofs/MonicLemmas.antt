@@ -17,6 +17,10 @@ use Rattle.cgs_algebra.specs.Specialisation.{specialised_list}
 use Rattle.cgs_algebra.proofs.MemberLemmas.{scaled_member}
 use Rattle.cgs_locate.specs.Located.{monic_at, basis_at}
 use Rattle.cgs_locate.specs.Laws.{IsMonicBasisAt}
+use Rattle.std.specs.List.{AllByRecursion}
+use Rattle.cgs_list.proofs.ListLemmas.{all_by_places, all_weaker}
+use Rattle.cgs_poly.proofs.MultipleLemmas.{monic_not_empty}
+use Rattle.cgs_algebra.proofs.PlaceLemmas.{canonical_at, member_at, not_zero_at, lead_place, lead_at_place, leads_apart, of_two_places}
 
 module _ (ring : Ring) (F P : List (List Term)) (r : IsRing ring) (basis : IsMinimal ring F P) where
   abbrev G : List (List Term)
@@ -29,24 +33,26 @@ module _ (ring : Ring) (F P : List (List Term)) (r : IsRing ring) (basis : IsMin
   at i l = get_or-map (monic_of ring) F i [] [] l
 
   same_lead : (i : ℕ) → i < length F → leading_monomial_at G i ≡ leading_monomial_at F i
-  same_lead i l = ap leading_monomial (at i l) ∙ monic_lead ring r (get_or F i []) (basis.groebner.canonical i l)
+  same_lead i l = ap leading_monomial (at i l) ∙ monic_lead ring r (get_or F i []) (canonical_at ring F basis.groebner.canonical i l)
 
-  canonical : (i : ℕ) → i < length F → IsCanonical ring (get_or G i [])
-  canonical i l = subst (IsCanonical ring) (sym (at i l)) (monic_canonical ring r (get_or F i []) (basis.groebner.canonical i l))
+  -- what holds of each member that is made monic
+  each : (Q : List Term → Type 0) → ((i : ℕ) → i < length F → Q (monic_of ring (get_or F i []))) → AllByRecursion Q G
+  each Q h = all_by_places Q [] G (λ i l. subst Q (sym (at i (within i l))) (h i (within i l)))
 
-  leading_one : (i : ℕ) → i < length F → leading_coefficient (get_or G i []) ≡ 1
-  leading_one i l = ap leading_coefficient (at i l) ∙ monic_leading ring r (get_or F i []) (basis.groebner.canonical i l) (basis.groebner.not_zero i l)
+  canonical : AllByRecursion (IsCanonical ring) G
+  canonical = each (IsCanonical ring) (λ i l. monic_canonical ring r (get_or F i []) (canonical_at ring F basis.groebner.canonical i l))
 
-  not_zero : (i : ℕ) → i < length F → get_or G i [] ≡ [] → ⊥
-  not_zero i l e = let bad : ◌≡◌ {A = ℕ} 0 1 = ap leading_coefficient (sym e) ∙ leading_one i l in absurd (omega arith)
+  leading_one : AllByRecursion (λ g. leading_coefficient g ≡ 1) G
+  leading_one = each (λ g. leading_coefficient g ≡ 1) (λ i l.
+      monic_leading ring r (get_or F i []) (canonical_at ring F basis.groebner.canonical i l) (not_zero_at F basis.groebner.not_zero i l))
 
-  member : (i : ℕ) → i < length F → IsMember ring P (get_or G i [])
-  member i l =
+  member : AllByRecursion (IsMember ring P) G
+  member = each (IsMember ring P) (λ i l.
       let f : List Term = get_or F i [] in
       let c : ℕ = inverse ring.modulus (leading_coefficient f) in
-      subst (λ g. IsMember ring P g) (sym (at i l))
-      (scaled_member ring P (ring_positive ring r) c f (monic_of ring f)
-      (λ w. (monic_alike ring r f (basis.groebner.canonical i l)).under w ∙ ap (λ n. n % ring.modulus) (total_scaled w c f)) (basis.groebner.members i l))
+      scaled_member ring P (ring_positive ring r) c f (monic_of ring f)
+      (λ w. (monic_alike ring r f (canonical_at ring F basis.groebner.canonical i l)).under w ∙ ap (λ n. n % ring.modulus) (total_scaled w c f))
+      (member_at ring P F basis.groebner.members i l))
 
   divided : (f : List Term) (i : ℕ) → i < length F → IsTrue (divides (leading_monomial_at F i) (leading_monomial f))
       → IsTrue (divides (leading_monomial_at G i) (leading_monomial f))
@@ -55,19 +61,21 @@ module _ (ring : Ring) (F P : List (List Term)) (r : IsRing ring) (basis : IsMin
   pub monic_minimal : IsMinimal ring G P
   monic_minimal = record {
     groebner = record {
-      canonical = λ i l. canonical i (within i l);
-      members = λ i l. member i (within i l);
-      not_zero = λ i l. not_zero i (within i l);
-      leads = λ f k h n. let j = basis.groebner.leads f k h n in (j.0, omega (arith, length-map F (monic_of ring), j.1), divided f j.0 j.1 j.2);
+      canonical = canonical;
+      members = member;
+      not_zero = all_weaker (λ g. leading_coefficient g ≡ 1) (λ g. ¬ (g ≡ [])) G leading_one monic_not_empty;
+      leads = λ f k h n.
+          let j = lead_place F (leading_monomial f) (basis.groebner.leads f k h n) in
+          lead_at_place G (leading_monomial f) j.0 (omega (arith, length-map F (monic_of ring), j.1)) (divided f j.0 j.1 j.2);
     };
-    apart = λ i j a b n d.
-        basis.apart i j (within i a) (within j b) n
+    apart = of_two_places (λ f g. ¬ IsTrue (divides (leading_monomial f) (leading_monomial g))) G (λ i j a b n d.
+        leads_apart F basis.apart i j (within i a) (within j b) n
         (subst (λ x. IsTrue (divides x (leading_monomial_at F j))) (same_lead i (within i a))
-        (subst (λ y. IsTrue (divides (leading_monomial_at G i) y)) (same_lead j (within j b)) d));
+        (subst (λ y. IsTrue (divides (leading_monomial_at G i) y)) (same_lead j (within j b)) d)));
   }
 
   pub monic_monic : AreMonic ring G
-  monic_monic = record { canonical = λ i l. canonical i (within i l); monic = λ i l. leading_one i (within i l) }
+  monic_monic = record { canonical = canonical; monic = leading_one }
 
 specialised_first : (ring : Ring) (point : List ℕ) (G : List (List Term))
     → basis_at ring point G ≡ map (monic_of (variables_ring ring)) (specialised_list ring point G)

@@ -7,11 +7,12 @@ use Rattle.cgs_algebra.specs.Groebner.{AreMonic, IsMinimal}
 use Rattle.cgs_algebra.specs.Specialisation.{specialised_list}
 use Rattle.cgs_point.specs.Points.{IsPoint}
 use Rattle.cgs_entry.specs.declared.entry.Entry.{Entry}
+use Rattle.cgs_entry.specs.Bases.{basis_of}
 use Rattle.cgs_entry.specs.Conditions.{IsInRegion}
 use Rattle.cgs_entry.specs.Entries.{is_refused, IsComprehensive}
 use Rattle.cgs_entry.specs.Laws.{LiesAt}
 use Rattle.cgs_locate.specs.declared.search.Located.{Located}
-use Rattle.cgs_locate.specs.Located.{basis_of, basis_at, located}
+use Rattle.cgs_locate.specs.Located.{basis_at, located}
 
 -- the entry at the index has the point, none before it has, and the basis is the entry's at the point
 pub record IsFirst (ring : Ring) (entries : List Entry) (point : List ℕ) (found : Located) : Type 0 where

@@ -5,15 +5,9 @@ use Rattle.cgs_poly.specs.Polynomial.{Term}
 use Rattle.cgs_poly.specs.Parameters.{variables_ring, specialised}
 use Rattle.cgs_poly.specs.Monic.{monic_of}
 use Rattle.cgs_entry.specs.declared.entry.Entry.{Entry}
-use Rattle.cgs_entry.specs.declared.entry.EntryKind.{EntryKind}
-use Rattle.cgs_entry.specs.declared.entry.EntryKind.TheVariants.{Solved, Refused}
+use Rattle.cgs_entry.specs.Bases.{basis_of}
 use Rattle.cgs_entry.specs.Conditions.{is_in_region}
 use Rattle.cgs_locate.specs.declared.search.Located.{Located}
-
--- the basis of an entry; the empty list where it is refused
-abbrev pub basis_of : EntryKind → List (List Term)
-basis_of (Solved basis tested) = basis
-basis_of (Refused cause) = []
 
 -- what a polynomial becomes at the point, made monic
 abbrev pub monic_at : Ring → List ℕ → List Term → List Term

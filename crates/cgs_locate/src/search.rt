@@ -5,8 +5,9 @@ ghost use Rattle.std.specs.List.{AllByRecursion};
 ghost use Rattle.cgs_poly.specs.Polynomial.{IsRing, IsPoly, ArePolys};
 ghost use Rattle.cgs_poly.specs.Parameters.{variables_ring};
 ghost use Rattle.cgs_point.specs.Points.{IsPoint};
+ghost use Rattle.cgs_entry.specs.Bases.{basis_of};
 ghost use Rattle.cgs_entry.specs.Entries.{IsEntry, IsFound};
-ghost use Rattle.cgs_locate.specs.Located.{basis_of, monic_at, basis_at, located};
+ghost use Rattle.cgs_locate.specs.Located.{monic_at, basis_at, located};
 
 use cgs_entry::{EntryKind, EntryList};
 use cgs_point::{Point, specialise};
@@ -90,18 +91,6 @@ fn monic_member(alloc: Global, ring: &Ring, f: &Poly, point: &Point) -> Result<P
     ensures poly { IfOk result (λ h. IsPoly (variables_ring ring.now) h) }
 {
     let special = specialise(alloc, ring, f, point)?;
-    let monic = Poly::monic(alloc, &without_parameters(ring), &special)?;
+    let monic = Poly::monic(alloc, &ring.variables_ring(), &special)?;
     Ok(monic)
-}
-
-// The ring of the variables alone.
-fn without_parameters(ring: &Ring) -> Ring
-    requires { IsRing ring.now }
-    ensures ring { result ≡ variables_ring ring.now }
-    ensures valid { IsRing result }
-{
-    Ring {
-        parameters: 0,
-        ..*ring
-    }
 }

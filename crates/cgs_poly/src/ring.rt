@@ -1,7 +1,8 @@
 //! The ring that polynomials are of.
 
 ghost use Rattle.std.specs.Prelude.{◌≡◌};
-ghost use Rattle.cgs_poly.specs.Polynomial.{places, order_of};
+ghost use Rattle.cgs_poly.specs.Polynomial.{IsRing, places, order_of};
+ghost use Rattle.cgs_poly.specs.Parameters.{variables_ring};
 
 use cgs_field::Modulus;
 use cgs_order::{BlockOrder, Kind};
@@ -31,6 +32,17 @@ impl Ring {
             kind: self.kind,
             head: self.variables,
             tail: self.parameters,
+        }
+    }
+
+    /// The ring of the variables alone.
+    pub fn variables_ring(&self) -> Ring
+        ensures ring { result ≡ variables_ring self.now }
+        ensures valid { IsRing self.now → IsRing result }
+    {
+        Ring {
+            parameters: 0,
+            ..*self
         }
     }
 }

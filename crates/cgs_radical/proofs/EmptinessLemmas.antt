@@ -1,5 +1,5 @@
 -- The emptiness run tells whether the conditions contradict each other.
-use Rattle.std.proofs.Common.{ℕ, zero, suc, ◌≡◌, ◌<◌, ◌↔◌, inr, Bool, true, false, cond, IsTrue, List, [], ◌∷◌, ◌++◌, length, get_or, replicate, refl, sym, ◌∙◌}
+use Rattle.std.proofs.Common.{ℕ, ◌≡◌, ◌<◌, ◌↔◌, inr, Bool, true, false, cond, IsTrue, List, [], ◌∷◌, ◌++◌, replicate, refl, sym, ◌∙◌}
 use Rattle.std.proofs.Common.{subst, arith}
 use Rattle.std.specs.List.{AllByRecursion}
 use Rattle.cgs_field.specs.Prime.{IsField}
@@ -12,7 +12,7 @@ use Rattle.cgs_poly.proofs.RecastLemmas.{recast_is_canonical}
 use Rattle.cgs_poly.proofs.OneLemmas.{one_canonical}
 use Rattle.cgs_algebra.specs.Combination.{IsMember}
 use Rattle.cgs_algebra.specs.Groebner.{IsReduced}
-use Rattle.cgs_algebra.proofs.MemberLemmas.{same_member, zero_member, sum_member, generator_member, member_of_members}
+use Rattle.cgs_algebra.proofs.MemberLemmas.{same_member, zero_member, sum_member, generators_inside, member_of_members}
 use Rattle.cgs_algebra.proofs.GrowthLemmas.{member_more, last_member, members_of_more}
 use Rattle.cgs_algebra.proofs.GenerationLemmas.{basis_generates}
 use Rattle.cgs_divide.specs.DivisionRun.{is_too_high}
@@ -27,6 +27,7 @@ use Rattle.cgs_radical.specs.Laws.{FindsBases, product_of, RunsDecide, EmptyIsCo
 use Rattle.cgs_radical.proofs.CongruenceLemmas.{AreCongruent, congruent_back, congruent_member}
 use Rattle.cgs_radical.proofs.ProductRunLemmas.{has_followed, ended_same, product_of_ring, one_times, products_same, products_canonical}
 use Rattle.cgs_radical.proofs.ContradictionLemmas.{one_alone_is_member, y_canonical, y_congruent, one_of_zero}
+use Rattle.cgs_list.proofs.ListLemmas.{all_weaker, all_push}
 
 -- lists in the ring with y
 
@@ -43,17 +44,6 @@ with_y_canonical ring (f ∷ F) h = (
 pub all_of_ring : (ring : Ring) (F : List (List Term)) → AllByRecursion (IsCanonical ring) F → AllByRecursion (IsOfRing ring) F
 all_of_ring ring [] h = tt
 all_of_ring ring (f ∷ F) h = (canonical_of_ring ring f h.0, all_of_ring ring F h.1)
-
-pub at_place : (P : List Term → Type 0) (F : List (List Term)) → AllByRecursion P F → (i : ℕ) → i < length F → P (get_or F i [])
-at_place P [] h i l = absurd (omega arith)
-at_place P (f ∷ F) h zero l = h.0
-at_place P (f ∷ F) h (suc i) l = at_place P F h.1 i (omega arith)
-
--- B and one polynomial more
-pub all_with_last : (P : List Term → Type 0) (B : List (List Term)) (z : List Term)
-    → ((i : ℕ) → i < length B → P (get_or B i [])) → P z → AllByRecursion P (B ++ z ∷ [])
-all_with_last P [] z h k = (k, tt)
-all_with_last P (b ∷ B) z h k = (h 0 (omega arith), all_with_last P B z (λ i l. h (suc i) (omega arith)) k)
 
 module _ (ring : Ring) (field : IsField ring.modulus) (some : ring.variables ≡ 1) (E B : List (List Term))
     (p r : List Term) (canonical : AllByRecursion (IsCanonical ring) E) (reduced : IsReduced ring B E)
@@ -73,12 +63,10 @@ module _ (ring : Ring) (field : IsField ring.modulus) (some : ring.variables ≡
   zp_ring : IsOfRing ring zp
   zp_ring = canonical_of_ring ring zp (y_canonical ring pos some p hp)
 
-  e_ring : (i : ℕ) → i < length E → IsOfRing ring (get_or E i [])
-  e_ring i l = canonical_of_ring ring (get_or E i []) (at_place (λ f. IsCanonical ring f) E canonical i l)
-
-  e_in_b : (i : ℕ) → i < length E → IsMember ring B (get_or E i [])
-  e_in_b i l =
-      (basis_generates ring E B field canonical reduced.minimal.groebner).second (get_or E i []) (generator_member ring E pos i l (e_ring i l))
+  e_in_b : AllByRecursion (IsMember ring B) E
+  e_in_b =
+      all_weaker (IsMember ring E) (IsMember ring B) E (generators_inside ring E pos (all_of_ring ring E canonical))
+      (basis_generates ring E B field canonical reduced.minimal.groebner).second
 
   forth : AreCongruent ring E zp z
   forth = y_congruent ring pos some E p r hp hr same
@@ -89,18 +77,19 @@ module _ (ring : Ring) (field : IsField ring.modulus) (some : ring.variables ≡
   -- the ideals of B and y*r - 1, and of E and y*p - 1
   from_basis : (f : List Term) → IsMember ring (B ++ z ∷ []) f → IsMember ring (E ++ zp ∷ []) f
   from_basis f m =
-      members_of_more ring B z pos (E ++ zp ∷ []) (λ i l. member_more ring E (zp ∷ []) (get_or B i []) (reduced.minimal.groebner.members i l))
+      members_of_more ring B z pos (E ++ zp ∷ [])
+      (all_weaker (IsMember ring E) (IsMember ring (E ++ zp ∷ [])) B reduced.minimal.groebner.members (member_more ring E (zp ∷ [])))
       (same_member ring (E ++ zp ∷ []) pos back.sum
       (sum_member ring (E ++ zp ∷ []) pos zp back.rest (last_member ring E zp pos zp_ring) (member_more ring E (zp ∷ []) back.rest back.member))) f m
 
   to_basis : (f : List Term) → IsMember ring (E ++ zp ∷ []) f → IsMember ring (B ++ z ∷ []) f
   to_basis f m =
-      members_of_more ring E zp pos (B ++ z ∷ []) (λ i l. member_more ring B (z ∷ []) (get_or E i []) (e_in_b i l))
+      members_of_more ring E zp pos (B ++ z ∷ []) (all_weaker (IsMember ring B) (IsMember ring (B ++ z ∷ [])) E e_in_b (member_more ring B (z ∷ [])))
       (same_member ring (B ++ z ∷ []) pos forth.sum (sum_member ring (B ++ z ∷ []) pos z forth.rest (last_member ring B z pos z_ring)
       (member_more ring B (z ∷ []) forth.rest (member_of_members ring E B pos e_in_b forth.rest forth.member)))) f m
 
   basis_canonical : AllByRecursion (IsCanonical ring) (B ++ z ∷ [])
-  basis_canonical = all_with_last (λ f. IsCanonical ring f) B z reduced.monic.canonical (y_canonical ring pos some r hr)
+  basis_canonical = all_push (IsCanonical ring) B z reduced.monic.canonical (y_canonical ring pos some r hr)
 
 -- a run that has a result did not end before
 not_high : {A : Type 0} (b : Bool) (m : ℕ) (run : Ending A) (result : A) (left : ℕ) → cond b (out_of_degree m) run ≡ ended result left → run ≡ ended result left
@@ -172,7 +161,7 @@ found_done (list.out_of_degree units') G left e = absurd (cc)
 buchberger_finds : FindsBases buchberger
 buchberger_finds = record {
   reduced = λ ring units left F G r ok e.
-      (basis_reduced ring F G units left r (at_place (λ f. IsCanonical ring f) F ok) (found_done (basis_run ring F units) G left e)).0;
+      (basis_reduced ring F G units left r ok (found_done (basis_run ring F units) G left e)).0;
 }
 
 pub empty_is_contradiction : EmptyIsContradiction

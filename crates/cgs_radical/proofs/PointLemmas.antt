@@ -25,9 +25,10 @@ use Rattle.cgs_algebra.proofs.FieldLemmas.{no_zero_divisors}
 use Rattle.cgs_entry.specs.Conditions.{IsInRegion}
 use Rattle.cgs_radical.specs.EmptinessRun.{y_ring, with_y, y_times_less_one}
 use Rattle.cgs_radical.specs.Laws.{product_of, Contradict, ContradictionHasNoPoint, EmptyHasNoPoint}
-use Rattle.cgs_radical.proofs.EmptinessLemmas.{empty_is_contradiction, with_y_canonical, all_of_ring, at_place, all_with_last}
+use Rattle.cgs_radical.proofs.EmptinessLemmas.{empty_is_contradiction, with_y_canonical, all_of_ring}
 use Rattle.cgs_radical.proofs.ProductRunLemmas.{product_of_ring}
 use Rattle.cgs_radical.proofs.ContradictionLemmas.{y_canonical}
+use Rattle.cgs_list.proofs.ListLemmas.{all_at_place, all_push}
 
 -- a weight that turns products of monomials of the ring into products
 pub record IsMultiplicative (ring : Ring) (w : List ℕ → ℕ) : Type 0 where
@@ -186,9 +187,9 @@ module _ (ring : Ring) (r : IsRing ring) (a : List ℕ) where
     all_zero : (i : ℕ) → i < length (with_y ring E ++ y_times_less_one (y_ring ring) p ∷ [])
         → IsZero (get_or (with_y ring E ++ y_times_less_one (y_ring ring) p ∷ []) i [])
     all_zero =
-        at_place IsZero (with_y ring E ++ y_times_less_one (y_ring ring) p ∷ [])
-        (all_with_last IsZero (with_y ring E) (y_times_less_one (y_ring ring) p)
-        (at_place IsZero (with_y ring E) (zeros E (all_of_ring (y_ring ring) (with_y ring E) (with_y_canonical ring E he)) inside.vanish)) last_zero)
+        all_at_place IsZero [] (with_y ring E ++ y_times_less_one (y_ring ring) p ∷ [])
+        (all_push IsZero (with_y ring E) (y_times_less_one (y_ring ring) p)
+        (zeros E (all_of_ring (y_ring ring) (with_y ring E) (with_y_canonical ring E he)) inside.vanish) last_zero)
 
     contradiction : Contradict ring E N → ⊥
     contradiction m =

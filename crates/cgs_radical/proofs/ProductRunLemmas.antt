@@ -1,5 +1,5 @@
 -- The remainder of a product is congruent to it.
-use Rattle.std.proofs.Common.{ℕ, ◌≡◌, ◌-◌, ◌<◌, Bool, true, false, cond, List, [], ◌∷◌, length, get_or, replicate, nat_lt, refl, ◌∙◌, subst}
+use Rattle.std.proofs.Common.{ℕ, ◌≡◌, ◌-◌, ◌<◌, Bool, true, false, cond, List, [], ◌∷◌, replicate, nat_lt, refl, ◌∙◌, subst}
 use Rattle.std.specs.List.{AllByRecursion}
 use Rattle.std.proofs.lemmas.List.{append-nil, length-replicate}
 use Rattle.cgs_poly.specs.declared.ring.Ring.{Ring}
@@ -81,7 +81,7 @@ pub one_times : (ring : Ring) (f : List Term) → IsOfRing ring f → all_produc
 one_times ring f h = append-nil (multiple 1 (replicate (places ring) 0) f) ∙ multiple_one ring f h
 
 module _ (ring : Ring) (F B : List (List Term)) (pos : 0 < ring.modulus) (ok : AreMonic ring B)
-    (inside : (i : ℕ) → i < length B → IsMember ring F (get_or B i [])) where
+    (inside : AllByRecursion (IsMember ring F) B) where
   abbrev Same : List Term → List Term → Type 0
   Same f g = AreCongruent ring F f g
 

@@ -1,7 +1,7 @@
-use Rattle.std.proofs.Common.{◌≡◌, Err, [], ap}
+use Rattle.std.proofs.Common.{◌≡◌, Err, ap}
 use Rattle.cgs_poly.proofs.RingLemmas.{ring_positive}
-use Rattle.cgs_list.proofs.ListLemmas.{all_at_place}
-use Rattle.cgs_poly.specs.Polynomial.{IsPoly}
+use Rattle.cgs_list.proofs.ListLemmas.{all_weaker}
+use Rattle.cgs_poly.specs.Polynomial.{IsPoly, IsCanonical}
 use Rattle.cgs_algebra.specs.Groebner.{IsReduced, IsAscending}
 use Rattle.cgs_algebra.proofs.UniquenessLemmas.{reduced_unique}
 use Rattle.cgs_divide.specs.declared.stop.Stop.TheVariants as stop
@@ -49,7 +49,7 @@ is_reduced c =
     let ring = c.args.ring.now in
     let F = c.args.generators.now in
     basis_reduced ring F c.in_ok-basis.basis c.args.fuel.now c.autoreduce.new.fuel c.requires.ring
-    (λ i l. (all_at_place (IsPoly ring) [] F c.requires.polys i l).canonical) (ended c)
+    (all_weaker (IsPoly ring) (IsCanonical ring) F c.requires.polys (λ f p. p.canonical)) (ended c)
 
 pub returns-clause-reduced : goal.returns-clause-reduced
 returns-clause-reduced c = (is_reduced (goal.at.returns-clause-reduced c).In_ok-basis).0

@@ -6,7 +6,7 @@ use Rattle.cgs_poly.specs.Product.{leading_monomial}
 use Rattle.cgs_divide.specs.declared.stop.Stop.TheVariants as stop
 use Rattle.cgs_divide.specs.Division.{HasDivided}
 use Rattle.cgs_divide.proofs.DivisionLemmas.{divided_divides}
-use Rattle.cgs_poly.specs.Polynomial.{Term, IsPoly, places, term}
+use Rattle.cgs_poly.specs.Polynomial.{HasLowDegrees, Term, IsPoly, places, term}
 use Rattle.cgs_poly.specs.Draft.{HaveLength}
 use Rattle.cgs_poly.proofs.RingLemmas.{ring_positive, places_few}
 use Rattle.cgs_poly.proofs.PlaceLemmas.{IsTermOf, canonical_at}
@@ -22,6 +22,8 @@ use Rattle.cgs_divide.proofs.StepLemmas.{get_read, replicate_zeros, kept_step, k
 use Rattle.cgs_divide.proofs.StepLemmas.{same_stop}
 use Rattle.cgs_divide.proofs.division.divide.Goals as goal
 use Rattle.cgs_divide.proofs.division.divide.Goals.{In-Some, After-get-divisor, After-from_vec}
+use Rattle.cgs_algebra.proofs.PlaceLemmas as algebra
+use Rattle.cgs_algebra.proofs.PlaceLemmas.{monic_at}
 
 pub loop-leading-init : goal.loop-leading-init
 loop-leading-init c =
@@ -111,7 +113,7 @@ divisor_some : (c : After-get-divisor) → 0 < length c.get-divisor.result.now
 divisor_some c =
     subst (λ g. 0 < length g) (divisor_is c)
     (monic_some (get_or c.args.divisors.now c.in-Some-first_divisor.i [])
-    (c.requires.monic.monic c.in-Some-first_divisor.i c.in-Some-first_divisor.ensures.first.0))
+    (monic_at c.args.divisors.now c.requires.monic.monic c.in-Some-first_divisor.i c.in-Some-first_divisor.ensures.first.0))
 
 pub reduced-requires-clause-divisor : goal.reduced-requires-clause-divisor
 reduced-requires-clause-divisor c =
@@ -245,5 +247,7 @@ pub returns-clause-quotients : goal.returns-clause-quotients
 returns-clause-quotients c =
     let d = found (goal.at.returns-clause-quotients c).After-from_vec in
     all_by_places (IsPoly c.args.ring.now) [] c.from_vec.result (λ i l.
-    let k : i < length c.args.divisors.now = omega (arith, d.places, l) in
-    record { canonical = d.canonical_quotients i k; low = d.low_quotients c.requires.poly.low i k })
+    record {
+      canonical = algebra.canonical_at c.args.ring.now c.from_vec.result d.canonical_quotients i l;
+      low = all_at_place HasLowDegrees [] c.from_vec.result (d.low_quotients c.requires.poly.low) i l;
+    })

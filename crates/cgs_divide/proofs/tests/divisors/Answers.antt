@@ -1,10 +1,9 @@
 use Rattle.std.proofs.Common.{◌≡◌, [], ◌∷◌, ◌++◌, length, ap, ◌∙◌, arith}
-use Rattle.cgs_poly.specs.Polynomial.{IsPoly}
+use Rattle.cgs_poly.specs.Polynomial.{IsPoly, IsCanonical}
 use Rattle.cgs_poly.specs.Product.{leading_coefficient}
-use Rattle.cgs_list.proofs.ListLemmas.{all_at_place, all_push}
+use Rattle.cgs_list.proofs.ListLemmas.{all_push, all_weaker}
 use Rattle.cgs_divide.proofs.tests.divisors.Goals as goal
 use Rattle.cgs_divide.proofs.tests.divisors.Goals.{then-len-gt0+in_ok-push, else-len-gt0}
-use Rattle.cgs_divide.proofs.PlaceLemmas.{each_appended}
 
 pub loop-terms-preserved : goal.loop-terms-preserved
 loop-terms-preserved c = elim c.if-len-gt0.branch [
@@ -15,15 +14,14 @@ loop-terms-preserved c = elim c.if-len-gt0.branch [
       record {
         polys = rw is
             (all_push (IsPoly c.args.ring.now) c.loop-terms.list c.in_ok-monic.monic c.loop-terms.invariant.polys c.in_ok-monic.ensures.poly);
-        monic = rw is (each_appended (λ g. leading_coefficient g ≡ 1) c.loop-terms.list c.in_ok-monic.monic c.loop-terms.invariant.monic leading_monomial);
+        monic = rw is (all_push (λ g. leading_coefficient g ≡ 1) c.loop-terms.list c.in_ok-monic.monic c.loop-terms.invariant.monic leading_monomial);
       }
   | else-len-gt0 w ↦ rw w.list-is c.loop-terms.invariant
 ]
 
 pub returns-clause-monic : goal.returns-clause-monic
 returns-clause-monic c = record {
-  canonical =
-      λ i l. (all_at_place (IsPoly c.args.ring.now) [] c.loop-terms.list c.loop-terms.invariant.polys i l).canonical;
+  canonical = all_weaker (IsPoly c.args.ring.now) (IsCanonical c.args.ring.now) c.loop-terms.list c.loop-terms.invariant.polys (λ f p. p.canonical);
   monic = c.loop-terms.invariant.monic;
 }
 

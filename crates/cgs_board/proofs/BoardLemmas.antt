@@ -25,11 +25,14 @@ pub none_quit_claim : (h : List Event) (worker : ℕ) (path : List ℕ) → (Has
 none_quit_claim h worker path none q =
     elim (Contains-push_cases h (Claim worker path) (Quit q.0) q.1) [ inl was ↦ none (q.0, was) | inr is ↦ quit_no_claim q.0 worker path (sym is) ]
 
+pub quit_before_give : (h : List Event) (worker : ℕ) (path : List ℕ) (children entries : ℕ) → HasQuit (h ++ Give worker path children entries ∷ []) → HasQuit h
+quit_before_give h worker path children entries q =
+    elim (Contains-push_cases h (Give worker path children entries) (Quit q.0) q.1)
+    [ inl was ↦ (q.0, was) | inr is ↦ absurd (quit_no_give q.0 worker path children entries (sym is)) ]
+
 pub none_quit_give : (h : List Event) (worker : ℕ) (path : List ℕ) (children entries : ℕ) → (HasQuit h → ⊥)
     → HasQuit (h ++ Give worker path children entries ∷ []) → ⊥
-none_quit_give h worker path children entries none q =
-    elim (Contains-push_cases h (Give worker path children entries) (Quit q.0) q.1)
-    [ inl was ↦ none (q.0, was) | inr is ↦ quit_no_give q.0 worker path children entries (sym is) ]
+none_quit_give h worker path children entries none q = none (quit_before_give h worker path children entries q)
 
 -- ---- a history that is complete for some workers is complete for more
 

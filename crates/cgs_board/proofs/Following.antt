@@ -18,11 +18,11 @@ use Rattle.cgs_board.proofs.TreeLemmas.{branch_at_child}
 use Rattle.cgs_board.proofs.SlotLists.{get-set_cases, get-set_same, get-set_other, get-append, get-append_right, get-append_cases, get-open_slots}
 use Rattle.cgs_board.proofs.SlotLists.{open_slots-get}
 use Rattle.cgs_board.proofs.HistoryLemmas.{none_in_nil, path_of, children_of, claim_no_give, quit_no_give, quit_no_claim, give_no_claim, within_push}
-use Rattle.cgs_board.proofs.HistoryLemmas.{offered_within, given_within, legal_start, legal_push, claimed_was_offered, given_is_claimed}
+use Rattle.cgs_board.proofs.HistoryLemmas.{offered_within, legal_start, legal_push, claimed_was_offered, given_is_claimed}
 
 module _ {J : Type 0} where
   -- a write that keeps the path keeps the paths of all places
-  path_before : (xs : List (Slot J)) (i : ℕ) (old new : Slot J) → slice_get xs i ≡ Some old → new.path ≡ old.path
+  pub path_before : (xs : List (Slot J)) (i : ℕ) (old new : Slot J) → slice_get xs i ≡ Some old → new.path ≡ old.path
       → (j : ℕ) (s : Slot J) → slice_get (slice_set xs i new) j ≡ Some s → (t : Slot J) × (slice_get xs j ≡ Some t) × (t.path ≡ s.path)
   path_before xs i old new was same j s at =
       elim (get-set_cases xs i j new s at) [
@@ -30,7 +30,7 @@ module _ {J : Type 0} where
         | inr other ↦ (s, other.1, refl)
       ]
 
-  path_after : (xs : List (Slot J)) (i : ℕ) (old new : Slot J) → slice_get xs i ≡ Some old → new.path ≡ old.path
+  pub path_after : (xs : List (Slot J)) (i : ℕ) (old new : Slot J) → slice_get xs i ≡ Some old → new.path ≡ old.path
       → (j : ℕ) (t : Slot J) → slice_get xs j ≡ Some t → (s : Slot J) × (slice_get (slice_set xs i new) j ≡ Some s) × (s.path ≡ t.path)
   path_after xs i old new was same j t at =
       elim (cases_eq j i) [
@@ -43,12 +43,12 @@ module _ {J : Type 0} where
       ]
 
 -- two paths that are equal have the same last number, and the same path above it
-front_same : (p q : List ℕ) (a b : ℕ) → p ++ a ∷ [] ≡ q ++ b ∷ [] → q ≡ p
+pub front_same : (p q : List ℕ) (a b : ℕ) → p ++ a ∷ [] ≡ q ++ b ∷ [] → q ≡ p
 front_same p q a b e =
     let n : length p ≡ length q = (let m = ap length e in omega (arith, m, length_push p a, length_push q b)) in
     sym (take_at q (b ∷ []) (length p) (sym n)) ∙ (ap (take (length p)) (sym e) ∙ take_at p (a ∷ []) (length p) refl)
 
-last_same : (p : List ℕ) (a b : ℕ) → p ++ a ∷ [] ≡ p ++ b ∷ [] → a ≡ b
+pub last_same : (p : List ℕ) (a b : ℕ) → p ++ a ∷ [] ≡ p ++ b ∷ [] → a ≡ b
 last_same p a b e = ap first (append_cancel_left p (a ∷ []) (b ∷ []) e)
   where
     first : List ℕ → ℕ
@@ -77,7 +77,7 @@ module _ {J E : Type 0} (node : J → List ℕ → Option E × List J) (root : J
           [ inl was ↦ a.1.1 (g.0, (g.1.0, g.1.1, was)) | inr is ↦ no_give g.1.0 g.0 g.1.1 is ],
     ),
   )
-  agrees_after h e path Closed no_claim no_give a = given_within h (h ++ e ∷ []) path (within_push h e) a
+  agrees_after h e path (Closed first children) no_claim no_give a = (a.0, a.1, within_push h e (Give a.0 path children a.1) a.2)
 
   -- the board at its start
   pub follows_start : Follows node root workers (open_slot [] root ∷ []) [] []
@@ -172,13 +172,14 @@ module _ {J E : Type 0} (node : J → List ℕ → Option E × List J) (root : J
               ]
 
     -- each slot is that of a branch that was offered
-    slot_offered : (i : ℕ) (slot : Slot J) → slice_get slots i ≡ Some slot → IsOffered slot.path h
+    pub slot_offered : (i : ℕ) (slot : Slot J) → slice_get slots i ≡ Some slot → IsOffered slot.path h
     slot_offered i slot at = of slot.path slot.stage (f.agree i slot at)
       where
         of : (path : List ℕ) (stage : Stage J) → Agrees node root h path stage → IsOffered path h
         of path (Open piece kept noted) a = a.4.0
         of path (Out worker kept) a = claimed_was_offered node root workers h f.legal path (worker, a.1.0)
-        of path Closed a = claimed_was_offered node root workers h f.legal path (given_is_claimed node root workers h f.legal path a)
+        of path (Closed first children) a =
+            claimed_was_offered node root workers h f.legal path (given_is_claimed node root workers h f.legal path (children, a))
 
     -- a child of a branch that was not given back was not offered
     child_is_new : (path : List ℕ) (k : ℕ) → (IsGiven path h → ⊥) → IsOffered (path ++ k ∷ []) h → ⊥
@@ -193,8 +194,11 @@ module _ {J E : Type 0} (node : J → List ℕ → Option E × List J) (root : J
       abbrev kids : List (Slot J)
       kids = open_slots path 0 (node branch path).1
 
+      abbrev shut : Slot J
+      shut = closed_slot path (length slots) (length (node branch path).1)
+
       abbrev after : List (Slot J)
-      after = slice_set (slots ++ kids) i (closed_slot path)
+      after = slice_set (slots ++ kids) i shut
 
       is_branch : branch_at node root path ≡ Some branch
       is_branch = (f.agree i (out_slot path worker branch) at).0
@@ -243,9 +247,9 @@ module _ {J E : Type 0} (node : J → List ℕ → Option E × List J) (root : J
           subst (λ (x : Slot J). Agrees node root (h ++ event ∷ []) x.path x.stage) (sym is) (child_agrees k c.0 c.1)
 
       agree_after : (j : ℕ) (s : Slot J) → slice_get after j ≡ Some s → Agrees node root (h ++ event ∷ []) s.path s.stage
-      agree_after j s there = elim (get-set_cases (slots ++ kids) i j (closed_slot path) s there) [
+      agree_after j s there = elim (get-set_cases (slots ++ kids) i j shut s there) [
         | inl here ↦ subst (λ (x : Slot J). Agrees node root (h ++ event ∷ []) x.path x.stage) (sym here.1)
-            (length (node branch path).1, (worker, entries_in (node branch path).0, Contains-push h event))
+            (worker, entries_in (node branch path).0, Contains-push h event)
         | inr other ↦ elim (get-append_cases slots kids j s other.1) [
           | inl before ↦ old_agrees j s other.0 before
           | inr new ↦ kid_agrees new.0 s new.2
@@ -273,7 +277,7 @@ module _ {J E : Type 0} (node : J → List ℕ → Option E × List J) (root : J
       moved_all : (p : List ℕ) (j : ℕ) (s : Slot J) → slice_get (slots ++ kids) j ≡ Some s → s.path ≡ p
           → (k : ℕ) × (t : Slot J) × (slice_get after k ≡ Some t) × (t.path ≡ p)
       moved_all p j s there is =
-          let a = path_after (slots ++ kids) i (out_slot path worker branch) (closed_slot path) at_all refl j s there in
+          let a = path_after (slots ++ kids) i (out_slot path worker branch) shut at_all refl j s there in
           (j, a.0, a.1, a.2 ∙ is)
 
       moved_old : (p : List ℕ) → IsOffered p h → (k : ℕ) × (t : Slot J) × (slice_get after k ≡ Some t) × (t.path ≡ p)
@@ -303,8 +307,8 @@ module _ {J E : Type 0} (node : J → List ℕ → Option E × List J) (root : J
         legal = legal_push node root workers h event f.legal (below, is_out, (branch, is_branch, refl, refl));
         agree = agree_after;
         apart = λ j k s t there here same.
-            let b = path_before (slots ++ kids) i (out_slot path worker branch) (closed_slot path) at_all refl j s there in
-            let c = path_before (slots ++ kids) i (out_slot path worker branch) (closed_slot path) at_all refl k t here in
+            let b = path_before (slots ++ kids) i (out_slot path worker branch) shut at_all refl j s there in
+            let c = path_before (slots ++ kids) i (out_slot path worker branch) shut at_all refl k t here in
             apart_all j k b.0 c.0 b.1 c.1 (b.2 ∙ (same ∙ sym c.2));
         covers = covers_after;
         entries = ap (λ es. es ++ entry_of node branch path) f.entries

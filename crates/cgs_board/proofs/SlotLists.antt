@@ -1,14 +1,16 @@
--- Lists of slots: reading, writing, appending, searching, and how many are open.
+-- Lists of slots: reading, writing, appending, how many are in a stage, and what a test over a list tells.
 use Rattle.std.proofs.Common.{◌≡◌, ℕ, zero, suc, ◌+◌, ◌<◌, ◌≤◌, Bool, true, false, List, [], ◌∷◌, ◌++◌, length, get_or, take, refl, ap, sym, ◌∙◌, arith, inl}
 use Rattle.std.proofs.Common.{inr}
-use Rattle.std.specs.Prelude.{◌⊎◌, ◌&&◌, ◌||◌, Some, None, slice_get, slice_set, cond}
-use Rattle.std.specs.List.{list_any, list_all, position_from}
-use Rattle.std.proofs.lemmas.Option.{none-some, same_Some, get_or_from_slice_get}
-use Rattle.std.proofs.lemmas.Bool.{cases_lt, false≢true}
+use Rattle.std.specs.Prelude.{◌⊎◌, ◌||◌, Some, slice_get, slice_set}
+use Rattle.std.specs.List.{list_any}
+use Rattle.std.proofs.lemmas.Option.{none-some, same_Some}
+use Rattle.std.proofs.lemmas.Bool.{false≢true}
 use Rattle.std.proofs.lemmas.List.{take_more, length-take}
 use Rattle.cgs_board.specs.declared.slot.Slot.{Slot}
-use Rattle.cgs_board.specs.Slots.{open_slot, out_slot, closed_slot, open_slots, is_open, open_count, count_if}
-use Rattle.cgs_board.specs.Steps.{StandsOpen, Closes}
+use Rattle.cgs_board.specs.declared.slot.Stage.{Stage}
+use Rattle.cgs_board.specs.declared.slot.Stage.TheVariants.{Open, Out, Closed}
+use Rattle.cgs_board.specs.Slots.{open_slot, out_slot, closed_slot, open_slots, is_open, is_closed, count_stages, count_if}
+use Rattle.cgs_board.specs.Steps.{Closes}
 
 -- ---- reading after a write
 
@@ -59,6 +61,10 @@ get-append_cases (y ∷ xs) ys (suc j) x at =
 
 -- ---- the slots of the children
 
+-- all slots of a list are open
+abbrev pub AllOpen : {J : Type 0} → List (Slot J) → Type 0
+AllOpen {J} slots = (i : ℕ) (slot : Slot J) → slice_get slots i ≡ Some slot → is_open slot.stage ≡ true
+
 pub get-open_slots : {J : Type 0} (path : List ℕ) (i : ℕ) (cs : List J) (k : ℕ) (slot : Slot J) → slice_get (open_slots path i cs) k ≡ Some slot
     → (c : J) × (slice_get cs k ≡ Some c) × (slot ≡ open_slot (path ++ (i + k) ∷ []) c)
 get-open_slots path i [] k slot at = absurd (none-some slot at)
@@ -86,96 +92,106 @@ open_slots_step path cs i c within is =
     let last : take (i + 1) cs ≡ take i cs ++ c ∷ [] = (take_more cs i c within ∙ ap (λ x. take i cs ++ x ∷ []) (sym is)) in
     rw last (open_slots-snoc path 0 (take i cs) c ∙ ap (λ k. open_slots path 0 (take i cs) ++ open_slot (path ++ k ∷ []) c ∷ []) n)
 
--- ---- how many are open
+-- as many slots as children, and all are open
+pub open_slots-length : {J : Type 0} (path : List ℕ) (i : ℕ) (cs : List J) → length (open_slots path i cs) ≡ length cs
+open_slots-length path i [] = refl
+open_slots-length path i (c ∷ cs) = ap suc (open_slots-length path (i + 1) cs)
 
--- one open slot fewer
-pub open_count-set : {J : Type 0} (slots : List (Slot J)) (i : ℕ) (old new : Slot J) → slice_get slots i ≡ Some old → is_open old.stage ≡ true
-    → is_open new.stage ≡ false
-    → open_count (slice_set slots i new) + 1 ≡ open_count slots
-open_count-set [] i old new at was now = absurd (none-some old at)
-open_count-set (s ∷ ss) zero old new at was now =
-    let e : s ≡ old = same_Some s old at in
-    let a : is_open s.stage ≡ true = rw e was in
-    let b : count_if (is_open s.stage) ≡ 1 = rw a refl in
-    let d : count_if (is_open new.stage) ≡ 0 = rw now refl in
-    omega (arith, b, d)
-open_count-set (s ∷ ss) (suc i) old new at was now = omega (arith, open_count-set ss i old new at was now)
+pub open_slots-open : {J : Type 0} (path : List ℕ) (i : ℕ) (cs : List J) → AllOpen (open_slots path i cs)
+open_slots-open {J} path i cs k slot at = let c = get-open_slots path i cs k slot at in ap (λ (s : Slot J). is_open s.stage) c.2
 
--- a slot that is not open is closed
-open_count-close : {J : Type 0} (slots : List (Slot J)) (i : ℕ) (old new : Slot J) → slice_get slots i ≡ Some old → is_open old.stage ≡ false
-    → is_open new.stage ≡ false
-    → open_count (slice_set slots i new) ≡ open_count slots
-open_count-close [] i old new at was now = refl
-open_count-close (s ∷ ss) zero old new at was now =
-    let e : s ≡ old = same_Some s old at in
-    let a : is_open s.stage ≡ false = rw e was in
-    rw (a, now) refl
-open_count-close (s ∷ ss) (suc i) old new at was now = ap (λ n. count_if (is_open s.stage) + n) (open_count-close ss i old new at was now)
+-- ---- how many are in a stage
 
-open_count-append : {J : Type 0} (xs ys : List (Slot J)) → open_count (xs ++ ys) ≡ open_count xs + open_count ys
-open_count-append [] ys = omega arith
-open_count-append (x ∷ xs) ys = omega (arith, open_count-append xs ys)
-
-count_if-le : (b : Bool) → count_if b ≤ 1
+pub count_if-le : (b : Bool) → count_if b ≤ 1
 count_if-le true = omega arith
 count_if-le false = omega arith
 
-open_count-le : {J : Type 0} (xs : List (Slot J)) → open_count xs ≤ length xs
-open_count-le [] = omega arith
-open_count-le (x ∷ xs) = omega (arith, open_count-le xs, count_if-le (is_open x.stage))
+module _ {J : Type 0} (passes : Stage J → Bool) where
+  -- a slot that is written counts in the place of the old one
+  pub count-set : (slots : List (Slot J)) (i : ℕ) (old new : Slot J) → slice_get slots i ≡ Some old
+      → count_stages passes (slice_set slots i new) + count_if (passes old.stage) ≡ count_stages passes slots + count_if (passes new.stage)
+  count-set [] i old new at = absurd (none-some old at)
+  count-set (s ∷ ss) zero old new at =
+      let e : count_if (passes s.stage) ≡ count_if (passes old.stage) = ap (λ (x : Slot J). count_if (passes x.stage)) (same_Some s old at) in
+      omega (arith, e)
+  count-set (s ∷ ss) (suc i) old new at = omega (arith, count-set ss i old new at)
+
+  pub count-append : (xs ys : List (Slot J)) → count_stages passes (xs ++ ys) ≡ count_stages passes xs + count_stages passes ys
+  count-append [] ys = omega arith
+  count-append (x ∷ xs) ys = omega (arith, count-append xs ys)
+
+  pub count-le : (xs : List (Slot J)) → count_stages passes xs ≤ length xs
+  count-le [] = omega arith
+  count-le (x ∷ xs) = omega (arith, count-le xs, count_if-le (passes x.stage))
+
+  pub count-none : (xs : List (Slot J)) → ((i : ℕ) (x : Slot J) → slice_get xs i ≡ Some x → passes x.stage ≡ false) → count_stages passes xs ≡ 0
+  count-none [] none = refl
+  count-none (x ∷ xs) none =
+      let here : count_if (passes x.stage) ≡ 0 = ap count_if (none zero x refl) in
+      omega (arith, here, count-none xs (λ i y at. none (suc i) y at))
+
+  -- where all count, each passes, and else one fails
+  pub count_all : (xs : List (Slot J)) → count_stages passes xs ≡ length xs → (i : ℕ) (x : Slot J) → slice_get xs i ≡ Some x → passes x.stage ≡ true
+  count_all [] all i x at = absurd (none-some x at)
+  count_all (y ∷ ys) all zero x at =
+      ap (λ (s : Slot J). passes s.stage) (sym (same_Some y x at)) ∙ is_one (passes y.stage) (omega (arith, all, count-le ys))
+    where
+      is_one : (b : Bool) → 1 ≤ count_if b → b ≡ true
+      is_one true le = refl
+      is_one false le = absurd (omega (arith, le))
+  count_all (y ∷ ys) all (suc i) x at = count_all ys (omega (arith, all, count-le ys, count_if-le (passes y.stage))) i x at
+
+  pub count_some : (xs : List (Slot J)) → count_stages passes xs < length xs → (i : ℕ) × (x : Slot J) × (slice_get xs i ≡ Some x) × (passes x.stage ≡ false)
+  count_some [] below = absurd (omega (arith, below))
+  count_some (y ∷ ys) below = by_first (passes y.stage) refl (λ less. count_some ys less)
+    where
+      by_first : (b : Bool) → passes y.stage ≡ b
+          → (count_stages passes ys < length ys → (i : ℕ) × (x : Slot J) × (slice_get ys i ≡ Some x) × (passes x.stage ≡ false))
+          → (i : ℕ) × (x : Slot J) × (slice_get (y ∷ ys) i ≡ Some x) × (passes x.stage ≡ false)
+      by_first true is later =
+          let one : count_if (passes y.stage) ≡ 1 = ap count_if is in
+          let r = later (omega (arith, below, one)) in
+          (suc r.0, r.1, r.2, r.3)
+      by_first false is later = (0, y, refl, is)
+
+-- the slots after a give
+pub closes_to : {J : Type 0} (old new : List (Slot J)) (at worker : ℕ) (path : List ℕ) (branch : J) (children : List J)
+    → slice_get old at ≡ Some (out_slot path worker branch) → Closes old at (open_slots path 0 children) new
+    → new ≡ slice_set (old ++ open_slots path 0 children) at (closed_slot path (length old) (length children))
+closes_to {J} old new at worker path branch children out closes =
+    let same : closes.0 ≡ out_slot path worker branch = same_Some closes.0 (out_slot path worker branch) (sym closes.1 ∙ out) in
+    closes.2
+    ∙ (ap (λ (s : Slot J). slice_set (old ++ open_slots path 0 children) at (closed_slot s.path (length old) (length (open_slots path 0 children)))) same
+    ∙ ap (λ n. slice_set (old ++ open_slots path 0 children) at (closed_slot path (length old) n)) (open_slots-length path 0 children))
 
 -- no more than one slot is open for each that was and each child
 pub close_room : {J : Type 0} (old fresh new : List (Slot J)) (at worker : ℕ) (path : List ℕ) (branch : J)
-    → slice_get old at ≡ Some (out_slot path worker branch) → Closes old at fresh new → open_count new ≤ length old + length fresh
+    → slice_get old at ≡ Some (out_slot path worker branch) → Closes old at fresh new → count_stages is_open new ≤ length old + length fresh
 close_room old fresh new at worker path branch out closes =
-    let count : open_count new ≡ open_count (old ++ fresh)
-    = ap open_count closes.2
-    ∙ open_count-close (old ++ fresh) at (out_slot path worker branch) (closed_slot closes.0.path) (get-append old fresh at (out_slot path worker branch) out)
-    refl refl in
-    omega (arith, count, open_count-append old fresh, open_count-le old, open_count-le fresh)
+    let count : count_stages is_open new ≡ count_stages is_open (slice_set (old ++ fresh) at (closed_slot closes.0.path (length old) (length fresh)))
+    = ap (count_stages is_open) closes.2 in
+    let set = count-set is_open (old ++ fresh) at (out_slot path worker branch) (closed_slot closes.0.path (length old) (length fresh))
+    (get-append old fresh at (out_slot path worker branch) out) in
+    omega (arith, count, set, count-append is_open old fresh, count-le is_open old, count-le is_open fresh)
+
+-- one slot more is closed
+pub close_count : {J : Type 0} (old fresh new : List (Slot J)) (at worker : ℕ) (path : List ℕ) (branch : J)
+    → slice_get old at ≡ Some (out_slot path worker branch) → AllOpen fresh → Closes old at fresh new
+    → count_stages is_closed new ≡ count_stages is_closed old + 1
+close_count {J} old fresh new at worker path branch out are closes =
+    let count : count_stages is_closed new ≡ count_stages is_closed (slice_set (old ++ fresh) at (closed_slot closes.0.path (length old) (length fresh)))
+    = ap (count_stages is_closed) closes.2 in
+    let set = count-set is_closed (old ++ fresh) at (out_slot path worker branch) (closed_slot closes.0.path (length old) (length fresh))
+    (get-append old fresh at (out_slot path worker branch) out) in
+    let none = count-none is_closed fresh (λ i x is. open_not_closed x.stage (are i x is)) in
+    omega (arith, count, set, count-append is_closed old fresh, none)
+  where
+    open_not_closed : (stage : Stage J) → is_open stage ≡ true → is_closed stage ≡ false
+    open_not_closed (Open piece kept noted) is = refl
+    open_not_closed (Out worker kept) is = refl
+    open_not_closed (Closed first children) is = absurd (false≢true is)
 
 -- ---- searching
-
--- an element that passes stands at this place
-abbrev pub Passes : {X : Type 0} → (X → Bool) → ℕ → List X → ℕ → Type 0
-Passes {X} p k xs i = (j : ℕ) × (x : X) × (i ≡ k + j) × (slice_get xs j ≡ Some x) × (p x ≡ true)
-
-found_at : {X : Type 0} (p : X → Bool) (k : ℕ) (x : X) (xs : List X) (i : ℕ) (b : Bool) → p x ≡ b
-    → (position_from p (k + 1) xs ≡ Some i → Passes p (k + 1) xs i)
-    → cond b (Some k) (position_from p (k + 1) xs) ≡ Some i → Passes p k (x ∷ xs) i
-found_at p k x xs i true is rest at = let e : k ≡ i = same_Some k i at in (0, x, omega arith, refl, is)
-found_at p k x xs i false is rest at = let r = rest at in let e : i ≡ k + 1 + r.0 = r.2 in (suc r.0, r.1, omega arith, r.3, r.4)
-
-found_from : {X : Type 0} (p : X → Bool) (k : ℕ) (xs : List X) (i : ℕ) → position_from p k xs ≡ Some i → Passes p k xs i
-found_from p k [] i at = absurd (none-some i at)
-found_from p k (x ∷ xs) i at = found_at p k x xs i (p x) refl (found_from p (k + 1) xs i) at
-
--- the first open slot is one
-pub first_open_is : {J : Type 0} (slots : List (Slot J)) (i : ℕ) → position_from (λ slot. is_open slot.stage) 0 slots ≡ Some i → StandsOpen slots i
-first_open_is slots i at =
-    let r = found_from (λ slot. is_open slot.stage) 0 slots i at in
-    let e : i ≡ r.0 = (let h = r.2 in omega arith) in
-    (r.1, ap (λ n. slice_get slots n) e ∙ r.3, r.4)
-
-missed_at : {X : Type 0} (p : X → Bool) (k : ℕ) (x : X) (xs : List X) (b : Bool) → p x ≡ b
-    → (position_from p (k + 1) xs ≡ None → list_any p xs ≡ false)
-    → cond b (Some k) (position_from p (k + 1) xs) ≡ None → list_any p (x ∷ xs) ≡ false
-missed_at p k x xs true is rest at = absurd (none-some k (sym at))
-missed_at p k x xs false is rest at = rw (is, rest at) refl
-
-pub missed_from : {X : Type 0} (p : X → Bool) (k : ℕ) (xs : List X) → position_from p k xs ≡ None → list_any p xs ≡ false
-missed_from p k [] at = refl
-missed_from p k (x ∷ xs) at = missed_at p k x xs (p x) refl (missed_from p (k + 1) xs) at
-
--- a search that missed one element more
-pub missed_more : {X : Type 0} (xs : List X) (i : ℕ) (x target : X) → i < length xs → x ≡ get_or xs i x → (x ≡ target → ⊥)
-    → ((k : ℕ) → k < i → slice_get xs k ≡ Some target → ⊥)
-    → (k : ℕ) → k < i + 1 → slice_get xs k ≡ Some target → ⊥
-missed_more xs i x target within is differs before k below at =
-    elim (cases_lt k i) [
-      | inl lt ↦ before k lt at
-      | inr ge ↦ let e : k ≡ i = omega arith in differs (is ∙ get_or_from_slice_get xs i target x (ap (λ n. slice_get xs n) (sym e) ∙ at))
-    ]
 
 -- what a test over a list tells of each element
 pub none_passes : {X : Type 0} (p : X → Bool) (xs : List X) → list_any p xs ≡ false → (i : ℕ) (x : X) → slice_get xs i ≡ Some x → p x ≡ false
@@ -190,19 +206,6 @@ none_passes p (y ∷ xs) none (suc i) x at = none_passes p xs (neither (p y) (li
     neither : (a b : Bool) → (a || b) ≡ false → b ≡ false
     neither true b h = absurd (false≢true (sym h))
     neither false b h = h
-
-pub each_passes : {X : Type 0} (p : X → Bool) (xs : List X) → list_all p xs ≡ true → (i : ℕ) (x : X) → slice_get xs i ≡ Some x → p x ≡ true
-each_passes p [] all i x at = absurd (none-some x at)
-each_passes p (y ∷ xs) all zero x at = ap p (sym (same_Some y x at)) ∙ both (p y) (list_all p xs) all
-  where
-    both : (a b : Bool) → (a && b) ≡ true → a ≡ true
-    both true b h = refl
-    both false b h = h
-each_passes p (y ∷ xs) all (suc i) x at = each_passes p xs (both (p y) (list_all p xs) all) i x at
-  where
-    both : (a b : Bool) → (a && b) ≡ true → b ≡ true
-    both true b h = h
-    both false b h = absurd (false≢true h)
 
 -- an element of the list has the answer b
 abbrev pub SomeAnswers : {X : Type 0} → (X → Bool) → Bool → List X → Type 0
@@ -219,12 +222,3 @@ passes_here p y xs false is h rest = answers_later p true y xs (rest h)
 pub some_passes : {X : Type 0} (p : X → Bool) (xs : List X) → list_any p xs ≡ true → SomeAnswers p true xs
 some_passes p [] any = absurd (false≢true any)
 some_passes p (y ∷ xs) any = passes_here p y xs (p y) refl any (some_passes p xs)
-
-fails_here : {X : Type 0} (p : X → Bool) (y : X) (xs : List X) (b : Bool) → p y ≡ b → (b && list_all p xs) ≡ false
-    → (list_all p xs ≡ false → SomeAnswers p false xs) → SomeAnswers p false (y ∷ xs)
-fails_here p y xs true is h rest = answers_later p false y xs (rest h)
-fails_here p y xs false is h rest = (0, y, refl, is)
-
-pub some_fails : {X : Type 0} (p : X → Bool) (xs : List X) → list_all p xs ≡ false → SomeAnswers p false xs
-some_fails p [] any = absurd (false≢true (sym any))
-some_fails p (y ∷ xs) any = fails_here p y xs (p y) refl any (some_fails p xs)

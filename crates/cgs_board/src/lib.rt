@@ -13,6 +13,7 @@ mod job;
 mod laws;
 mod piece;
 mod slot;
+mod waiting;
 mod walk;
 
 pub use board::{Board, Claimed, Given};

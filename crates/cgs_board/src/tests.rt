@@ -104,6 +104,27 @@ fn two_workers(rt: HostRuntime) {
     }
 }
 
+// Claims the branch at this path, which is next, and gives it back.
+fn take(rt: &impl Abort, alloc: Global, board: &mut Board<Countdown>, path: &[usize]) {
+    assert!(rt; 0 < board.workers());
+    let piece = handed(rt, board.claim(0), path);
+    let done = finish(alloc, piece).expect(rt, "memory");
+    assert!(rt; 0 < board.workers());
+    assert!(rt; matches!(board.give(0, done), Given::Kept));
+}
+
+#[test]
+fn deepest_first(rt: HostRuntime) {
+    let alloc = rt.alloc();
+    let mut board = Board::new(alloc, Countdown { n: 2 }, 1).expect(&rt, "memory");
+    take(&rt, alloc, &mut board, &[]);
+    take(&rt, alloc, &mut board, &[0]);
+    take(&rt, alloc, &mut board, &[0, 0]);
+    take(&rt, alloc, &mut board, &[1]);
+    take(&rt, alloc, &mut board, &[1, 0]);
+    assert!(rt; board.finished());
+}
+
 #[test]
 fn a_worker_quits(rt: HostRuntime) {
     let mut board = Board::new(rt.alloc(), Countdown { n: 1 }, 2).expect(&rt, "memory");

@@ -1,22 +1,28 @@
-use Rattle.std.proofs.Common.{Some, arith, refl, ap, ◌∙◌, length}
+use Rattle.std.proofs.Common.{refl, sym, ◌∙◌, arith}
 use Rattle.std.proofs.lemmas.Bool.{false≢true}
-use Rattle.std.proofs.lemmas.Option.{slice_get_read, slice_get_within}
+use Rattle.std.proofs.lemmas.Option.{slice_get_within}
 use Rattle.cgs_board.specs.Slots.{out_slot}
-use Rattle.cgs_board.proofs.SlotLists.{missed_more}
+use Rattle.cgs_board.proofs.Finding.{is_out_slot, no_out_slot}
 use Rattle.cgs_board.proofs.slot.find_out.Goals as goal
 
-pub loop-i-preserved : goal.loop-i-preserved
-loop-i-preserved g c =
-    missed_more c.args.slots.now c.loop-i.i c.index-slots-i.result (out_slot c.args.path.now c.args.worker c.args.branch.now) c.loop-i-test.true
-    c.index-slots-i.is
-    (λ same. false≢true (c.if-is_out_of.ensures.1 same))
-    c.loop-i.invariant
+pub returns-in_default : goal.returns-in_default
+returns-in_default g c i at = c.in_default.ensures i (out_slot c.args.path.now c.args.worker c.args.branch.now, at, sym c.as_slice.ensures)
+
+pub offset_bounds-slots-at : goal.offset_bounds-slots-at
+offset_bounds-slots-at g c =
+    let s = c.in-Some.ensures in let w = slice_get_within c.args.slots.now c.in-Some.at s.0 s.1 in omega (arith, w)
+
+pub bounds-slots-at : goal.bounds-slots-at
+bounds-slots-at g c = let s = c.in-Some.ensures in slice_get_within c.args.slots.now c.in-Some.at s.0 s.1
 
 pub returns-then-is_out_of : goal.returns-then-is_out_of
 returns-then-is_out_of g c =
-    slice_get_read c.args.slots.now (length c.args.slots.now) c.loop-i.i c.index-slots-i.result refl c.loop-i-test.true c.index-slots-i.is
-    ∙ ap Some (c.if-is_out_of.ensures.0 refl)
+    let s = c.in-Some.ensures in
+    is_out_slot c.args.slots.now c.requires.tree c.args.path.now c.args.worker c.args.branch.now c.in-Some.at c.index-slots-at.result
+    (s.0, s.1, s.2 ∙ c.as_slice.ensures) (c.if-is_out_of.ensures.0 refl)
 
-pub returns : goal.returns
-returns g c i at = c.loop-i.invariant i (let w = slice_get_within c.args.slots.now i (out_slot c.args.path.now c.args.worker c.args.branch.now) at in
-    omega (arith, c.loop-i-test.false)) at
+pub returns-else-is_out_of : goal.returns-else-is_out_of
+returns-else-is_out_of g c =
+    let s = c.in-Some.ensures in
+    no_out_slot c.args.slots.now c.requires.tree c.args.path.now c.args.worker c.args.branch.now c.in-Some.at c.index-slots-at.result
+    (s.0, s.1, s.2 ∙ c.as_slice.ensures) (λ same. false≢true (c.if-is_out_of.ensures.1 same))

@@ -1,7 +1,7 @@
-use Rattle.std.proofs.Common.{◌≡◌, sym, subst, ◌∙◌}
-use Rattle.std.specs.List.{list_all}
+use Rattle.std.proofs.Common.{◌≡◌, arith, sym, subst, length}
+use Rattle.std.proofs.lemmas.Bool.{eqb-true, eq-eqb}
 use Rattle.cgs_board.specs.History.{IsFinished, HasQuit}
-use Rattle.cgs_board.specs.Slots.{is_closed}
+use Rattle.cgs_board.specs.Slots.{is_closed, count_stages}
 use Rattle.cgs_board.proofs.HistoryLemmas.{finished_came_back}
 use Rattle.cgs_board.proofs.Answering.{finished_where, closed_where}
 use Rattle.cgs_board.proofs.Gathering.{finished_is_complete, gives_all}
@@ -9,24 +9,26 @@ use Rattle.cgs_board.proofs.board.Board.finished.Goals as goal
 
 pub returns-clause-value : goal.returns-clause-value
 returns-clause-value g c =
-    let tells : c.all_closed.result ≡ list_all (λ slot. is_closed slot.stage) c.self.inside.slots.items =
-    rw (← c.as_slice.ensures.value) c.all_closed.ensures in (
-      λ is. rw (← c.self.view_is) (finished_where g.J.Job.node _ _ _ _ _ c.self.invariant.follows (sym tells ∙ is)),
-      λ done. tells ∙ closed_where g.J.Job.node _ _ _ _ _ c.self.invariant.follows (subst (λ v. IsFinished v.history) (sym c.self.view_is) done),
+    let f = c.self.invariant.follows in (
+      λ is.
+          let same : c.self.inside.closed ≡ c.len.result = eqb-true c.self.inside.closed c.len.result is in
+          let all : count_stages is_closed c.self.inside.slots.items ≡ length c.self.inside.slots.items
+          = omega (arith, same, c.len.ensures, c.self.invariant.count, c.self.inside.slots.ok.0) in
+          rw (← c.self.view_is) (finished_where g.J.Job.node _ _ _ _ _ f all),
+      λ done.
+          let all = closed_where g.J.Job.node _ _ _ _ _ f (subst (λ v. IsFinished v.history) (sym c.self.view_is) done) in
+          eq-eqb c.self.inside.closed c.len.result (omega (arith, all, c.len.ensures, c.self.invariant.count, c.self.inside.slots.ok.0)),
     )
 
 pub returns-clause-complete : goal.returns-clause-complete
 returns-clause-complete g c is stay =
-    let tells : c.all_closed.result ≡ list_all (λ slot. is_closed slot.stage) c.self.inside.slots.items =
-    rw (← c.as_slice.ensures.value) c.all_closed.ensures in
     let f = c.self.invariant.follows in
     let none : HasQuit c.self.inside.history.items → ⊥ = rw (← c.self.view_is) at stay in
-    rw (← c.self.view_is) (finished_is_complete g.J.Job.node _ _ _ f.legal (finished_where g.J.Job.node _ _ _ _ _ f (sym tells ∙ is)) none)
+    let done : IsFinished c.self.inside.history.items = subst (λ v. IsFinished v.history) (sym c.self.view_is) ((returns-clause-value g c).0 is) in
+    rw (← c.self.view_is) (finished_is_complete g.J.Job.node _ _ _ f.legal done none)
 
 pub returns-clause-gives : goal.returns-clause-gives
 returns-clause-gives g c is =
-    let tells : c.all_closed.result ≡ list_all (λ slot. is_closed slot.stage) c.self.inside.slots.items =
-    rw (← c.as_slice.ensures.value) c.all_closed.ensures in
     let f = c.self.invariant.follows in
-    rw (← c.self.view_is)
-    (gives_all g.J.Job.node g.J.Job.height g.met.J.Job.falls _ _ _ f.legal (finished_came_back _ (finished_where g.J.Job.node _ _ _ _ _ f (sym tells ∙ is))))
+    let done : IsFinished c.self.inside.history.items = subst (λ v. IsFinished v.history) (sym c.self.view_is) ((returns-clause-value g c).0 is) in
+    rw (← c.self.view_is) (gives_all g.J.Job.node g.J.Job.height g.met.J.Job.falls _ _ _ f.legal (finished_came_back _ done))

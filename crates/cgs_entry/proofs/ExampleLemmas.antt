@@ -1,25 +1,25 @@
 -- The entries of a*x - 1 modulo 7, and lists that are none.
-use Rattle.std.proofs.Common.{ℕ, zero, suc, ◌≡◌, ◌+◌, ◌*◌, ◌%◌, ◌<◌, Bool, true, false, List, [], ◌∷◌, length, get_or, map, refl, sym, ap, ◌∙◌, subst, IsTrue}
+use Rattle.std.proofs.Common.{ℕ, zero, suc, ◌≡◌, ◌+◌, ◌*◌, ◌%◌, ◌<◌, Bool, true, false, List, [], ◌∷◌, length, map, refl, sym, ap, ◌∙◌, subst}
 use Rattle.std.proofs.Common.{arith, eqb}
 use Rattle.cgs_order.specs.TermOrder.{key, compared}
 use Rattle.std.proofs.Math.Nat.{add-mul-mod_self_right}
 use Rattle.cgs_exps.specs.Monomial.{divides}
 use Rattle.cgs_exps.proofs.MonomialLemmas.{product_comm, one_product, divides_product}
 use Rattle.cgs_poly.specs.Product.{leading_monomial}
-use Rattle.cgs_poly.specs.Polynomial.{Term, term, IsCanonical}
+use Rattle.cgs_poly.specs.Polynomial.{Term, term}
 use Rattle.cgs_poly.specs.Parameters.{value_at, variables_ring, specialised_terms, specialised}
 use Rattle.cgs_poly.proofs.CanonicalLemmas.{is_canonical}
 use Rattle.cgs_poly.proofs.MultipleLemmas.{lead_length}
 use Rattle.cgs_algebra.specs.Combination.{IsMember}
-use Rattle.cgs_algebra.specs.Groebner.{leading_monomial_at, IsMinimal}
+use Rattle.cgs_algebra.specs.Groebner.{IsMinimal}
 use Rattle.cgs_algebra.proofs.MemberLemmas.{scaled_member, generator_member}
-use Rattle.cgs_algebra.proofs.OneLemmas.{at_one}
 use Rattle.cgs_point.specs.Points.{IsPoint}
 use Rattle.cgs_entry.specs.Conditions.{IsInRegion}
 use Rattle.cgs_entry.specs.Entries.{IsBasisAt, entries_at}
 use Rattle.cgs_entry.specs.Examples.{seven, only_a, only_x, one, line, line_times_a, solved, LineIsSolved, GapIsRefused, OverlapIsRefused, WrongBasisIsRefused}
 use Rattle.cgs_entry.specs.Examples.{VanishingLeadIsRefused, RepeatedLeadIsRefused}
 use Rattle.cgs_entry.proofs.SingleLemmas.{single_minimal}
+use Rattle.cgs_algebra.proofs.PlaceLemmas.{lead_at_place, only_lead}
 
 is_point : (n : ℕ) → n < 7 → IsPoint seven (n ∷ [])
 is_point n l = record { places = refl; below = (l, tt) }
@@ -46,7 +46,7 @@ unfolding key compared
 repeated_lead_refused h =
     let inside : IsInRegion seven [] (only_a ∷ []) (1 ∷ []) = record { vanish = tt; stand = (λ e. cc, tt) } in
     let s : IsBasisAt seven (1 ∷ []) (line ∷ []) (line ∷ line_times_a ∷ []) = h.sound.0 (1 ∷ []) (is_point 1 (omega arith)) inside in
-    s.minimal.apart 0 1 (omega arith) (omega arith) (λ e. cc) refl
+    (s.minimal.apart 0 1 [] (omega arith) (omega arith)).0 refl
 
 -- what holds of 0 to 6 holds of each number below 7
 at_seven : (P : ℕ → Type 0) → P 0 → P 1 → P 2 → P 3 → P 4 → P 5 → P 6 → (n : ℕ) → n < 7 → P n
@@ -76,7 +76,7 @@ unfolding key compared
 wrong_basis_refused h =
     let s : IsBasisAt seven (0 ∷ []) (line ∷ []) (only_x ∷ []) = h.sound.1.0 (0 ∷ []) (is_point 0 (omega arith)) (record { vanish = (refl, tt); stand = tt }) in
     let d = s.minimal.groebner.leads six (omega arith, omega arith, refl, tt, tt) six_member (λ e. cc) in
-    at_one (λ i. IsTrue (divides (leading_monomial_at ((term 1 (1 ∷ []) ∷ []) ∷ []) i) (leading_monomial six)) → ⊥) (λ e. cc) d.0 d.1 d.2
+    let e = only_lead (term 1 (1 ∷ []) ∷ []) (leading_monomial six) d in cc
 
 -- the line is solved
 
@@ -112,14 +112,18 @@ thirty_six n =
 one_minimal : IsMinimal (variables_ring seven) (one_at_zero ∷ []) (six ∷ [])
 one_minimal = record {
   groebner = record {
-    canonical = at_one (λ i. IsCanonical (variables_ring seven) (get_or (one_at_zero ∷ []) i [])) (omega arith, omega arith, refl, tt, tt);
-    members = at_one (λ i. IsMember (variables_ring seven) (six ∷ []) (get_or (one_at_zero ∷ []) i []))
-        (scaled_member (variables_ring seven) (six ∷ []) (omega arith) 6 six one_at_zero (λ w. thirty_six (w (0 ∷ [])))
-        (generator_member (variables_ring seven) (six ∷ []) (omega arith) 0 (omega arith) (refl, tt)));
-    not_zero = at_one (λ i. ¬ (get_or (one_at_zero ∷ []) i [] ≡ [])) (λ e. cc);
-    leads = λ f k m some. (0, omega arith, one_divides (leading_monomial f) (lead_length (variables_ring seven) f k some));
+    canonical = ((omega arith, omega arith, refl, tt, tt), tt);
+    members = (
+      scaled_member (variables_ring seven) (six ∷ []) (omega arith) 6 six one_at_zero (λ w. thirty_six (w (0 ∷ [])))
+          (generator_member (variables_ring seven) (six ∷ []) (omega arith) 0 (omega arith) (refl, tt)),
+      tt,
+    );
+    not_zero = (λ e. cc, tt);
+    leads = λ f k m some.
+        lead_at_place (one_at_zero ∷ []) (leading_monomial f) 0 (omega arith)
+        (one_divides (leading_monomial f) (lead_length (variables_ring seven) f k some));
   };
-  apart = λ i j hi hj n d. n (omega (arith, hi, hj));
+  apart = λ i j d l k. absurd (omega (arith, l, k));
 }
 
 one_serves : IsBasisAt seven (0 ∷ []) (line ∷ []) (one ∷ [])

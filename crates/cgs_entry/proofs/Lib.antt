@@ -3,3 +3,5 @@ pub mod AddingLemmas
 pub mod SingleLemmas
 pub mod ExampleLemmas
 pub mod CoverLemmas
+pub mod OneLemmas
+pub mod BasisLemmas

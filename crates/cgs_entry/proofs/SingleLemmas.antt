@@ -1,5 +1,5 @@
 -- A polynomial that is not 0 is a minimal Gröbner basis of its own ideal.
-use Rattle.std.proofs.Common.{◌≡◌, List, [], ◌∷◌, get_or, subst, IsTrue, arith}
+use Rattle.std.proofs.Common.{◌≡◌, List, [], ◌∷◌, subst, IsTrue, arith}
 use Rattle.cgs_exps.specs.Monomial.{divides}
 use Rattle.cgs_poly.specs.declared.ring.Ring.{Ring}
 use Rattle.cgs_poly.specs.Polynomial.{Term, IsRing, IsCanonical}
@@ -9,10 +9,10 @@ use Rattle.cgs_poly.proofs.CanonicalLemmas.{canonical_of_ring}
 use Rattle.cgs_poly.proofs.MonicLemmas.{monic_canonical, monic_lead, monic_leading, monic_back}
 use Rattle.cgs_poly.proofs.RingLemmas.{ring_positive}
 use Rattle.cgs_algebra.specs.Combination.{IsMember}
-use Rattle.cgs_algebra.specs.Groebner.{leading_monomial_at, SomeLeadDivides, IsGroebnerBasis, AreMonic, IsMinimal}
+use Rattle.cgs_algebra.specs.Groebner.{SomeLeadDivides, IsGroebnerBasis, AreMonic, IsMinimal}
 use Rattle.cgs_algebra.proofs.MemberLemmas.{scaled_member, generator_member, member_of_members}
 use Rattle.cgs_algebra.proofs.GroebnerLemmas.{criterion}
-use Rattle.cgs_algebra.proofs.OneLemmas.{at_one}
+use Rattle.cgs_algebra.proofs.PlaceLemmas.{lead_at_place, only_lead}
 
 module _ (ring : Ring) (r : IsRing ring) (g : List Term) (h : IsCanonical ring g) (some : ¬ (g ≡ [])) where
   abbrev unit : List Term
@@ -20,8 +20,8 @@ module _ (ring : Ring) (r : IsRing ring) (g : List Term) (h : IsCanonical ring g
 
   unit_monic : AreMonic ring (unit ∷ [])
   unit_monic = record {
-    canonical = at_one (λ i. IsCanonical ring (get_or (unit ∷ []) i [])) (monic_canonical ring r g h);
-    monic = at_one (λ i. leading_coefficient (get_or (unit ∷ []) i []) ≡ 1) (monic_leading ring r g h some);
+    canonical = (monic_canonical ring r g h, tt);
+    monic = (monic_leading ring r g h some, tt);
   }
 
   unit_groebner : IsGroebnerBasis ring (unit ∷ []) (unit ∷ [])
@@ -33,28 +33,24 @@ module _ (ring : Ring) (r : IsRing ring) (g : List Term) (h : IsCanonical ring g
       (generator_member ring (unit ∷ []) (ring_positive ring r) 0 (omega arith) (canonical_of_ring ring unit (monic_canonical ring r g h)))
 
   leads_at : (f : List Term) → SomeLeadDivides (unit ∷ []) (leading_monomial f) → SomeLeadDivides (g ∷ []) (leading_monomial f)
-  leads_at f d = (
-    0,
-    omega arith,
-    at_one (λ i. IsTrue (divides (leading_monomial_at (unit ∷ []) i) (leading_monomial f)) → IsTrue (divides (leading_monomial g) (leading_monomial f)))
-        (λ e. subst (λ m. IsTrue (divides m (leading_monomial f))) (monic_lead ring r g h) e) d.0 d.1 d.2,
-  )
+  leads_at f d =
+      lead_at_place (g ∷ []) (leading_monomial f) 0 (omega arith)
+      (subst (λ m. IsTrue (divides m (leading_monomial f))) (monic_lead ring r g h) (only_lead unit (leading_monomial f) d))
 
   single_groebner : IsGroebnerBasis ring (g ∷ []) (g ∷ [])
   single_groebner = record {
-    canonical = at_one (λ i. IsCanonical ring (get_or (g ∷ []) i [])) h;
-    members = at_one (λ i. IsMember ring (g ∷ []) (get_or (g ∷ []) i []))
-        (generator_member ring (g ∷ []) (ring_positive ring r) 0 (omega arith) (canonical_of_ring ring g h));
-    not_zero = at_one (λ i. ¬ (get_or (g ∷ []) i [] ≡ [])) some;
+    canonical = (h, tt);
+    members = (generator_member ring (g ∷ []) (ring_positive ring r) 0 (omega arith) (canonical_of_ring ring g h), tt);
+    not_zero = (some, tt);
     leads = λ f k m not_nil.
         leads_at f
         (unit_groebner.leads f k
-        (member_of_members ring (g ∷ []) (unit ∷ []) (ring_positive ring r) (at_one (λ i. IsMember ring (unit ∷ []) (get_or (g ∷ []) i [])) g_member) f m)
+        (member_of_members ring (g ∷ []) (unit ∷ []) (ring_positive ring r) (g_member, tt) f m)
         not_nil);
   }
 
   pub single_minimal : IsMinimal ring (g ∷ []) (g ∷ [])
   single_minimal = record {
     groebner = single_groebner;
-    apart = λ i j hi hj n d. n (omega (arith, hi, hj));
+    apart = λ i j d l k. absurd (omega (arith, l, k));
   }

@@ -1,12 +1,13 @@
 -- From the count to the answer.
-use Rattle.std.proofs.Common.{ℕ, zero, suc, ◌≡◌, ◌+◌, ◌-◌, ◌<◌, ◌≤◌, inl, inr, min, true, false, not, List, [], length, refl, sym, ap, subst, arith}
-use Rattle.std.proofs.lemmas.Bool.{and_parts, le-leb, lt-leb, both_ways, cases_order}
+use Rattle.std.proofs.Common.{ℕ, zero, suc, ◌≡◌, ◌+◌, ◌-◌, ◌<◌, ◌≤◌, inl, inr, min, nat_le, Bool, true, false, not, cond, List, [], length, refl, sym, ap}
+use Rattle.std.proofs.Common.{subst, arith}
+use Rattle.std.proofs.lemmas.Bool.{and_parts, le-leb, lt-leb, leb-true, leb-false, both_ways, cases_order}
 use Rattle.std.proofs.lemmas.List.Sums.{length-filter}
-use Rattle.cgs_report.specs.declared.standard.TheConstants.{MOST_COUNTED}
-use Rattle.cgs_report.specs.declared.standard.Standard.TheVariants.{Many, Count}
-use Rattle.cgs_report.specs.Standard.{has_divisor, AreFinite, AreStandard}
-use Rattle.cgs_report.specs.Box.{has_power, have_powers, box, standard_monomials, standard_of}
-use Rattle.cgs_report.specs.Laws.{HavePlaces}
+use Rattle.cgs_report.specs.declared.standard.Standard.{Standard}
+use Rattle.cgs_report.specs.declared.standard.Standard.TheVariants.{NotFinite, Many, Count}
+use Rattle.cgs_report.specs.Standard.{has_divisor, IsStandard, HasExactly}
+use Rattle.cgs_report.specs.Box.{has_power, have_powers, box, standard_monomials, most_counted, counted, standard_of}
+use Rattle.cgs_report.specs.Laws.{HavePlaces, Tells}
 use Rattle.cgs_report.specs.Walk.{standard_after}
 use Rattle.cgs_report.proofs.BoxLemmas.{finite_box, finite_powers}
 
@@ -27,45 +28,51 @@ powers_from L i (suc k) h =
     rw a b
 
 module _ (n : ℕ) (L : List (List ℕ)) (h : HavePlaces n L) where
-  pub tells_not_finite : have_powers L 0 n ≡ false → ¬ AreFinite n L
-  tells_not_finite e f = both_ways _ e (powers_from L 0 n (λ j l m. finite_powers n L h f j (omega arith)))
-
   abbrev number : ℕ
   number = length (standard_monomials n L)
+
+  -- what is to be told is so
+  pub standard_tells : Tells (IsStandard n L) (standard_of n L)
+  standard_tells = by_powers (have_powers L 0 n) refl
+    where
+      by_count : HasExactly (IsStandard n L) (standard_monomials n L) → (b : Bool) → nat_le number most_counted ≡ b
+          → Tells (IsStandard n L) (cond b (Count number) Many)
+      by_count by_box true t = (standard_monomials n L, by_box, refl, leb-true number most_counted t)
+      by_count by_box false t = (standard_monomials n L, by_box, leb-false number most_counted t)
+
+      by_powers : (b : Bool) → have_powers L 0 n ≡ b → Tells (IsStandard n L) (cond b (counted number) NotFinite)
+      by_powers true e =
+          by_count (finite_box n L h (λ j l. powers_at L 0 n j e (omega arith) (omega arith))) (nat_le number most_counted) refl
+      by_powers false e = λ f. both_ways _ e (powers_from L 0 n (λ j l m. finite_powers n L h f j (omega arith)))
+
+  -- an answer that is that one
+  pub told : (s : Standard) → s ≡ standard_of n L → Tells (IsStandard n L) s
+  told s e = subst (λ t. Tells (IsStandard n L) t) (sym e) standard_tells
+
+  pub is_not_finite : have_powers L 0 n ≡ false → NotFinite ≡ standard_of n L
+  is_not_finite e = rw e refl
 
   counted_number : number ≡ standard_after L [] (box L 0 n)
   counted_number = length-filter (λ m. not (has_divisor L m)) (box L 0 n)
 
-  module _ (powers : have_powers L 0 n ≡ true) (count : ℕ) (e : count ≡ min (0 + standard_after L [] (box L 0 (n - 0))) (MOST_COUNTED + 1)) where
-    abbrev by_box : AreStandard n L (standard_monomials n L)
-    by_box = finite_box n L h (λ j l. powers_at L 0 n j powers (omega arith) (omega arith))
-
-    least : count ≡ min number (MOST_COUNTED + 1)
+  module _ (powers : have_powers L 0 n ≡ true) (count : ℕ) (e : count ≡ min (0 + standard_after L [] (box L 0 (n - 0))) (most_counted + 1)) where
+    least : count ≡ min number (most_counted + 1)
     least =
         let z : n - 0 ≡ n = omega arith in
-        let a : count ≡ min (0 + standard_after L [] (box L 0 (n - 0))) (MOST_COUNTED + 1) = e in
+        let a : count ≡ min (0 + standard_after L [] (box L 0 (n - 0))) (most_counted + 1) = e in
         let b = counted_number in
         let c = rw z at a in
         omega (arith, b, c)
 
-    pub tells_many : MOST_COUNTED < count → (M : List (List ℕ)) × AreStandard n L M × (MOST_COUNTED < length M)
-    tells_many m = let a = least in (standard_monomials n L, by_box, omega (arith, a))
-
-    pub is_many : MOST_COUNTED < count → Many ≡ standard_of n L
+    pub is_many : most_counted < count → Many ≡ standard_of n L
     is_many m =
         let a = least in
-        let l : MOST_COUNTED < number = omega (arith, a) in
-        let t = lt-leb number MOST_COUNTED l in
+        let l : most_counted < number = omega (arith, a) in
+        let t = lt-leb number most_counted l in
         rw (powers, t) refl
 
-    same_count : count ≤ MOST_COUNTED → count ≡ number
-    same_count m = let a = least in omega (arith, a)
-
-    pub tells_count : count ≤ MOST_COUNTED → (M : List (List ℕ)) × AreStandard n L M × (length M ≡ count) × (count ≤ MOST_COUNTED)
-    tells_count m = (standard_monomials n L, by_box, sym (same_count m), m)
-
-    pub is_count : count ≤ MOST_COUNTED → Count count ≡ standard_of n L
+    pub is_count : count ≤ most_counted → Count count ≡ standard_of n L
     is_count m =
-        let a = same_count m in
-        let t = le-leb number MOST_COUNTED (let l : count ≤ MOST_COUNTED = m in omega (arith, a)) in
+        let a : count ≡ number = let b = least in omega (arith, b) in
+        let t = le-leb number most_counted (let l : count ≤ most_counted = m in omega (arith, a)) in
         rw (powers, t) (ap Count a)

@@ -10,7 +10,7 @@ use Rattle.std.specs.Str.{bytes_eq}
 use Rattle.std.proofs.lemmas.Map.Made.{is_member-filter, length-from_same_keys}
 use Rattle.std.proofs.lemmas.Cmp.{nat_list_eq_equiv}
 use Rattle.cgs_list.proofs.ListLemmas.{all_append, all_weaker}
-use Rattle.cgs_report.specs.Standard.{has_divisor, IsStandard, AreStandard, AreFinite, is_listed}
+use Rattle.cgs_report.specs.Standard.{has_divisor, IsStandard, HasExactly, AreFinite, is_listed}
 use Rattle.cgs_report.specs.Box.{has_power, side, starting, box, standard_monomials}
 use Rattle.cgs_report.specs.Laws.{HavePlaces}
 use Rattle.cgs_report.proofs.DivisorLemmas.{side_divides, no_power-apart}
@@ -160,10 +160,10 @@ among_filter : (m : List ℕ) (p : List ℕ → Bool) (M : List (List ℕ)) → 
 among_filter m p M t h = is_member-filter nat_list_eq_equiv p m (λ x e. ap p ((bytes_eq-Decides m x).0 e)) M ∙ and_from (is_listed m M) (p m) h t
 
 -- the box of the least powers has the standard monomials, where each variable has a power
-pub finite_box : (n : ℕ) (L : List (List ℕ)) → HavePlaces n L → ((i : ℕ) → i < n → has_power i L ≡ true) → AreStandard n L (standard_monomials n L)
+pub finite_box : (n : ℕ) (L : List (List ℕ)) → HavePlaces n L → ((i : ℕ) → i < n → has_power i L ≡ true) → HasExactly (IsStandard n L) (standard_monomials n L)
 finite_box n L h p = record {
   distinct = distinct_filter (λ m. not (has_divisor L m)) (box L 0 n) (box_distinct L 0 n);
-  standard = all_weaker (λ m. (length m ≡ n) × (not (has_divisor L m) ≡ true)) (IsStandard n L) (standard_monomials n L)
+  each = all_weaker (λ m. (length m ≡ n) × (not (has_divisor L m) ≡ true)) (IsStandard n L) (standard_monomials n L)
       (all_filter (λ m. length m ≡ n) (λ m. not (has_divisor L m)) (box L 0 n) (box_places L 0 n))
       (λ m e. record { places = e.0; apart = not-true (has_divisor L m) e.1 });
   all = λ m s. among_filter m (λ m. not (has_divisor L m)) (box L 0 n) (not_from_false (has_divisor L m) s.apart)
@@ -184,7 +184,7 @@ among_exponent i m (x ∷ M) h =
       | inr t ↦ let e = among_exponent i m M t in omega (arith, e)
     ]
 
-pub finite_powers : (n : ℕ) (L : List (List ℕ)) → HavePlaces n L → AreFinite n L → (i : ℕ) → i < n → has_power i L ≡ true
+pub finite_powers : (n : ℕ) (L : List (List ℕ)) → HavePlaces n L → AreFinite (IsStandard n L) → (i : ℕ) → i < n → has_power i L ≡ true
 finite_powers n L h f i l = true_from_ne_false (has_power i L) (λ e. contradiction (n - suc i) (omega arith) e)
   where
     contradiction : (k : ℕ) → n ≡ i + suc k → has_power i L ≡ false → ⊥
@@ -198,7 +198,7 @@ finite_powers n L h f i l = true_from_ne_false (has_power i L) (λ e. contradict
         let b : get_or m i 0 ≡ top = get_or_at (replicate i 0) top (replicate k 0) 0 i (length-replicate {A = ℕ} i 0) in
         omega (arith, a, b)
 
-pub one_number : (n : ℕ) (L M N : List (List ℕ)) → AreStandard n L M → AreStandard n L N → length M ≡ length N
+pub one_number : (n : ℕ) (L M N : List (List ℕ)) → HasExactly (IsStandard n L) M → HasExactly (IsStandard n L) N → length M ≡ length N
 one_number n L M N a b = length-from_same_keys nat_list_eq_equiv M N a.distinct b.distinct same
   where
     inside : (M : List (List ℕ)) (q : List ℕ) → AllByRecursion (IsStandard n L) M → is_listed q M ≡ true → IsStandard n L q
@@ -212,6 +212,6 @@ one_number n L M N a b = length-from_same_keys nat_list_eq_equiv M N a.distinct 
     same : (q : List ℕ) → is_listed q M ≡ is_listed q N
     same q =
         elim (cases_Bool (is_listed q M)) [
-          | inl t ↦ t ∙ sym (b.all q (inside M q a.standard t))
-          | inr t ↦ t ∙ sym (false_from_ne_true (is_listed q N) (λ e. both_ways _ t (a.all q (inside N q b.standard e))))
+          | inl t ↦ t ∙ sym (b.all q (inside M q a.each t))
+          | inr t ↦ t ∙ sym (false_from_ne_true (is_listed q N) (λ e. both_ways _ t (a.all q (inside N q b.each e))))
         ]

@@ -56,7 +56,7 @@ zeros_one : (k : ℕ) → is_one (replicate k 0) ≡ true
 zeros_one zero = refl
 zeros_one (suc k) = zeros_one k
 
-pub divides-is_one : (k : ℕ) (l : List ℕ) → length l ≡ k → divides l (replicate k 0) ≡ true → is_one l ≡ true
+divides-is_one : (k : ℕ) (l : List ℕ) → length l ≡ k → divides l (replicate k 0) ≡ true → is_one l ≡ true
 divides-is_one k l p d = ap is_one (divides_zeros k l p d) ∙ zeros_one k
 
 -- what divides a power is one

@@ -3,7 +3,6 @@ use Rattle.std.specs.Prelude.{ℕ, ◌+◌, ◌==◌, ◌&&◌, Bool, true, not,
 use Rattle.std.specs.Prelude.{slice_index, zero, suc}
 use Rattle.std.specs.List.{list_any, list_all, filter}
 use Rattle.std.specs.Option.{unwrap_or}
-use Rattle.cgs_report.specs.declared.standard.TheConstants.{MOST_COUNTED}
 use Rattle.cgs_report.specs.declared.standard.Standard.{Standard}
 use Rattle.cgs_report.specs.declared.standard.Standard.TheVariants.{NotFinite, Many, Count}
 use Rattle.cgs_report.specs.Standard.{has_divisor}
@@ -53,9 +52,13 @@ box L i (suc k) = starting (side i L) (box L (i + 1) k)
 abbrev pub standard_monomials : ℕ → List (List ℕ) → List (List ℕ)
 standard_monomials n L = filter (λ m. not (has_divisor L m)) (box L 0 n)
 
+-- the greatest number that is told
+abbrev pub most_counted : ℕ
+most_counted = 1000000
+
 -- a count, if it is not too great
 abbrev pub counted : ℕ → Standard
-counted k = cond (nat_le k MOST_COUNTED) (Count k) Many
+counted k = cond (nat_le k most_counted) (Count k) Many
 
 -- what is told of the standard monomials: that they are infinitely many, that they are more than are counted, or their number
 abbrev pub standard_of : ℕ → List (List ℕ) → Standard

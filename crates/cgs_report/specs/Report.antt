@@ -4,17 +4,11 @@ use Rattle.std.specs.Cmp.Lexicographic.{pointwise}
 use Rattle.cgs_poly.specs.declared.ring.Ring.{Ring}
 use Rattle.cgs_poly.specs.Polynomial.{Term, one}
 use Rattle.cgs_poly.specs.Same.{same_poly}
-use Rattle.cgs_entry.specs.declared.entry.Entry.{Entry}
 use Rattle.cgs_report.specs.declared.entry.Findings.{Findings}
-use Rattle.cgs_entry.specs.declared.entry.EntryKind.TheVariants.{Solved, Refused}
 use Rattle.cgs_report.specs.declared.standard.Standard.{Standard}
 use Rattle.cgs_report.specs.declared.standard.Standard.TheVariants.{NotFinite, Many, Count}
 use Rattle.cgs_report.specs.Standard.{leads_x}
 use Rattle.cgs_report.specs.Box.{standard_of}
-
--- the basis of an entry; a refused entry has none
-abbrev pub basis_of : Entry → List (List Term)
-basis_of entry = elim entry.kind [ Solved basis tested ↦ basis | Refused cause ↦ [] ]
 
 -- whether the basis is another than the list of 1
 abbrev pub is_solvable : Ring → List (List Term) → Bool

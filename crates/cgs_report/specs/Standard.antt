@@ -25,13 +25,13 @@ pub record IsStandard (n : ℕ) (L : List (List ℕ)) (m : List ℕ) : Type 0 wh
 abbrev pub is_listed : List ℕ → List (List ℕ) → Bool
 is_listed m M = list_any (bytes_eq m) M
 
--- M has exactly the standard monomials, none of them twice
-pub record AreStandard (n : ℕ) (L M : List (List ℕ)) : Type 0 where
+-- M has exactly the monomials of a kind, none of them twice
+pub record HasExactly (IsOne : List ℕ → Type 0) (M : List (List ℕ)) : Type 0 where
   pub distinct : IsDistinct bytes_eq M
-  pub standard : AllByRecursion (IsStandard n L) M
-  pub all : (m : List ℕ) → IsStandard n L m → IsTrue (is_listed m M)
+  pub each : AllByRecursion IsOne M
+  pub all : (m : List ℕ) → IsOne m → IsTrue (is_listed m M)
 
--- they are finitely many: some list has them all
-pub record AreFinite (n : ℕ) (L : List (List ℕ)) : Type 0 where
+-- the monomials of a kind are finitely many: some list has them all
+pub record AreFinite (IsOne : List ℕ → Type 0) : Type 0 where
   pub monomials : List (List ℕ)
-  pub all : (m : List ℕ) → IsStandard n L m → IsTrue (is_listed m monomials)
+  pub all : (m : List ℕ) → IsOne m → IsTrue (is_listed m monomials)

@@ -4,10 +4,11 @@ ghost use Rattle.std.specs.Prelude.{◌≡◌, false, [], ◌∷◌};
 ghost use Rattle.std.specs.Cmp.Lexicographic.{pointwise};
 ghost use Rattle.cgs_poly.specs.Polynomial.{IsRing, IsPoly, ArePolys, one};
 ghost use Rattle.cgs_poly.specs.Same.{same_poly};
+ghost use Rattle.cgs_entry.specs.Bases.{basis_of};
 ghost use Rattle.cgs_entry.specs.Entries.{IsFound, is_refused};
-ghost use Rattle.cgs_report.specs.Standard.{leads_x};
+ghost use Rattle.cgs_report.specs.Standard.{IsStandard, leads_x};
 ghost use Rattle.cgs_report.specs.Laws.{Tells};
-ghost use Rattle.cgs_report.specs.Report.{basis_of, is_finite, findings_of};
+ghost use Rattle.cgs_report.specs.Report.{is_finite, findings_of};
 
 use crate::leads::is_one;
 use crate::standard::{Standard, standard_monomials};
@@ -29,8 +30,8 @@ pub fn report(ring: &Ring, entry: &Entry) -> Findings
     requires ring { IsRing ring.now }
     requires solved { is_refused entry.now ≡ false }
     requires found { IsFound ring.now entry.now.kind }
-    ensures exact { result ≡ findings_of ring.now (basis_of entry.now) }
-    ensures tells { Tells ring.now.variables (leads_x ring.now (basis_of entry.now)) result.standard }
+    ensures exact { result ≡ findings_of ring.now (basis_of entry.now.kind) }
+    ensures tells { Tells (IsStandard ring.now.variables (leads_x ring.now (basis_of entry.now.kind))) result.standard }
 {
     let EntryKind::Solved { basis, .. } = &entry.kind else {
         unreachable!()

@@ -3,7 +3,7 @@
 ghost use Rattle.std.specs.Prelude.{◌≡◌, ◌+◌, ◌-◌, ◌≤◌, false, take, drop, min, replicate, IsTrue};
 ghost use Rattle.cgs_poly.specs.Polynomial.{IsRing, ArePolys};
 ghost use Rattle.cgs_report.specs.Laws.{Tells};
-ghost use Rattle.cgs_report.specs.Standard.{leads_x, has_divisor};
+ghost use Rattle.cgs_report.specs.Standard.{IsStandard, leads_x, has_divisor};
 ghost use Rattle.cgs_report.specs.Box.{have_powers, box, standard_of};
 ghost use Rattle.cgs_report.specs.Walk.{standard_after};
 
@@ -33,7 +33,7 @@ pub enum Standard {
 pub(crate) fn standard_monomials(ring: &Ring, basis: &[Poly]) -> Standard
     requires ring { IsRing ring.now }
     requires polys { ArePolys ring.now basis.now }
-    ensures tells { Tells ring.now.variables (leads_x ring.now basis.now) result }
+    ensures tells { Tells (IsStandard ring.now.variables (leads_x ring.now basis.now)) result }
     ensures standard { result ≡ standard_of ring.now.variables (leads_x ring.now basis.now) }
 {
     if !have_powers(ring, basis) {

@@ -42,4 +42,4 @@ not_minimal_refused h = by_good h.below.0.good
     by_good (inl e) = cc
     by_good (inr serves) =
         let there : IsBasisAt seven (1 ∷ []) squares.polys squares.polys = serves (1 ∷ []) (record { vanish = tt; stand = (λ e. cc, tt) }) in
-        there.minimal.apart 0 1 (omega arith) (omega arith) (λ e. cc) refl
+        (there.minimal.apart 0 1 [] (omega arith) (omega arith)).0 refl

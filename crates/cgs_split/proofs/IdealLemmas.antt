@@ -1,11 +1,10 @@
 -- At each point of a child's region the child's polynomials generate the ideal of the branch's.
-use Rattle.std.proofs.Common.{ℕ, zero, suc, ◌≡◌, ◌+◌, ◌*◌, ◌%◌, ◌<◌, Bool, true, false, List, [], ◌∷◌, ◌++◌, length, get_or, map, replicate, refl, sym, ap, ◌∙◌}
+use Rattle.std.proofs.Common.{ℕ, zero, ◌≡◌, ◌+◌, ◌*◌, ◌%◌, ◌<◌, Bool, true, false, List, [], ◌∷◌, ◌++◌, length, get_or, map, replicate, refl, sym, ap, ◌∙◌}
 use Rattle.std.proofs.Common.{subst, arith}
 use Rattle.std.proofs.Math.Nat.{mul-one, mod-eq_of_lt}
-use Rattle.std.proofs.lemmas.List.{length-append, length-map, get_or_append_left, get_or-append-add, get_or_default}
-use Rattle.std.proofs.lemmas.List.Elements.{All-from_recursion, recursion_from_All}
+use Rattle.std.proofs.lemmas.List.{length-append, length-map, get_or_append_left, get_or-append-add}
 use Rattle.std.specs.List.{AllByRecursion}
-use Rattle.cgs_list.proofs.ListLemmas.{all_append, all_weaker}
+use Rattle.cgs_list.proofs.ListLemmas.{all_append, all_weaker, all_by_places, all_at_place}
 use Rattle.cgs_field.specs.Prime.{IsField}
 use Rattle.cgs_field.proofs.ModularLemmas.{mod_mul}
 use Rattle.cgs_poly.specs.declared.ring.Ring.{Ring}
@@ -20,7 +19,7 @@ use Rattle.cgs_algebra.proofs.MemberLemmas.{same_member, scaled_member, generato
 use Rattle.cgs_algebra.proofs.PointLemmas.{power_weight, total_specialised, get_specialised}
 use Rattle.cgs_algebra.proofs.VanishingLemmas.{free_vanishes, free_total}
 use Rattle.cgs_algebra.proofs.SpecialisedIdealLemmas.{specialised_member}
-use Rattle.cgs_algebra.proofs.SpecialisationLemmas.{canonical_at, of_ring_at}
+use Rattle.cgs_algebra.proofs.PlaceLemmas.{canonical_at, of_ring_at, member_at}
 use Rattle.cgs_poly.proofs.ParameterLemmas.{tested_free, free_tested}
 use Rattle.cgs_poly.proofs.OneLemmas.{one_canonical}
 use Rattle.cgs_poly.proofs.SpecialisedLemmas.{at_point, specialised_of_ring}
@@ -30,15 +29,7 @@ use Rattle.cgs_algebra.proofs.OneLemmas.{all_members}
 use Rattle.cgs_algebra.proofs.SpecialisedBasisLemmas.{second_all, specialised_basis}
 use Rattle.cgs_split.specs.Cases.{Case}
 use Rattle.cgs_split.specs.Soundness.{IsBranch, HasBasis, SameIdealAt}
-use Rattle.cgs_split.proofs.OneLemmas.{one_special, one_special_total}
-
--- lists
-
-pub each_of : (P : List Term → Type 0) (F : List (List Term)) → ((i : ℕ) → i < length F → P (get_or F i [])) → AllByRecursion P F
-each_of P F h = recursion_from_All P F (λ i d l. subst P (get_or_default F i [] d l) (h i l))
-
-pub each_at : (P : List Term → Type 0) (F : List (List Term)) → AllByRecursion P F → (i : ℕ) → i < length F → P (get_or F i [])
-each_at P F h i l = All-from_recursion P F h i [] l
+use Rattle.cgs_entry.proofs.OneLemmas.{one_special, one_special_total}
 
 -- ideals
 
@@ -67,17 +58,18 @@ module _ (ring : Ring) (a : List ℕ) (pos : 0 < ring.modulus) where
   members_at F E L f_ok e_ok zeros h = member_of_members (variables_ring ring) (specialised_list ring a L) (specialised_list ring a F) pos inside
     where
       e_ring : (i : ℕ) → i < length E → IsOfRing ring (get_or E i [])
-      e_ring i l = canonical_of_ring ring (get_or E i []) (each_at (IsParametric ring) E e_ok i l).canonical
+      e_ring i l = canonical_of_ring ring (get_or E i []) (all_at_place (IsParametric ring) [] E e_ok i l).canonical
 
       e_zero : (i : ℕ) → i < length E → (w : List ℕ → ℕ) → total (at_point ring a w) (get_or E i []) % ring.modulus ≡ 0
-      e_zero i l = free_vanishes ring a pos (get_or E i []) (each_at (IsParametric ring) E e_ok i l).free (each_at (λ f. value_at ring a f ≡ 0) E zeros i l)
+      e_zero i l =
+          free_vanishes ring a pos (get_or E i []) (all_at_place (IsParametric ring) [] E e_ok i l).free
+          (all_at_place (λ f. value_at ring a f ≡ 0) [] E zeros i l)
 
-      inside : (i : ℕ) → i < length (specialised_list ring a L)
-          → IsMember (variables_ring ring) (specialised_list ring a F) (get_or (specialised_list ring a L) i [])
-      inside i l =
-          let q = each_at (λ f. IsCanonical ring f × IsMember ring (F ++ E) f) L h i (omega (arith, length-map L (specialised ring a))) in
+      inside : AllByRecursion (IsMember (variables_ring ring) (specialised_list ring a F)) (specialised_list ring a L)
+      inside = all_by_places (IsMember (variables_ring ring) (specialised_list ring a F)) [] (specialised_list ring a L) (λ i l.
+          let q = all_at_place (λ f. IsCanonical ring f × IsMember ring (F ++ E) f) [] L h i (omega (arith, length-map L (specialised ring a))) in
           subst (λ f. IsMember (variables_ring ring) (specialised_list ring a F) f) (sym (get_specialised ring a L i))
-          (specialised_member ring a pos F E (of_ring_at ring F f_ok) e_ring e_zero (get_or L i []) (canonical_of_ring ring (get_or L i []) q.0) q.1)
+          (specialised_member ring a pos F E (of_ring_at ring F f_ok) e_ring e_zero (get_or L i []) (canonical_of_ring ring (get_or L i []) q.0) q.1))
 
 module _ (ring : Ring) (a : List ℕ) (field : IsField ring.modulus) (branch : Case) (ok : IsBranch ring branch) (G M : List (List Term))
     (basis : HasBasis ring branch G M) where
@@ -93,26 +85,23 @@ module _ (ring : Ring) (a : List ℕ) (field : IsField ring.modulus) (branch : C
   generators_ok : AllByRecursion (IsCanonical ring) (F ++ E)
   generators_ok = all_append (IsCanonical ring) F E ok.polys (all_weaker (IsParametric ring) (IsCanonical ring) E ok.zero (λ f p. p.canonical))
 
-  basis_ok : AllByRecursion (IsCanonical ring) G
-  basis_ok = each_of (IsCanonical ring) G basis.monic.canonical
-
   -- the members of G in the parameters alone, and the others
   pub parts_ok : AllByRecursion (IsParametric ring) (parametric_members ring G) × AllByRecursion (IsCanonical ring) (other_members ring G)
   parts_ok = (
     all_weaker (λ g. IsCanonical ring g × HasNoVariables ring g) (IsParametric ring) (parametric_members ring G)
-        (parametric_each ring (IsCanonical ring) G basis_ok) (λ g p. record { canonical = p.0; free = p.1 }),
-    other_each ring (IsCanonical ring) G basis_ok,
+        (parametric_each ring (IsCanonical ring) G basis.monic.canonical) (λ g p. record { canonical = p.0; free = p.1 }),
+    other_each ring (IsCanonical ring) G basis.monic.canonical,
   )
 
   same_generators : SameIdeal ring G (F ++ E)
   same_generators = basis_generates ring (F ++ E) G field generators_ok basis.groebner
 
   -- each member of G is one of the two parts
-  in_parts : (i : ℕ) → i < length G → IsMember ring (other_members ring G ++ parametric_members ring G) (get_or G i [])
-  in_parts i l = by_test (has_no_variables ring (get_or G i [])) refl
+  part_at : (i : ℕ) → i < length G → IsMember ring (other_members ring G ++ parametric_members ring G) (get_or G i [])
+  part_at i l = by_test (has_no_variables ring (get_or G i [])) refl
     where
       of_ring : IsOfRing ring (get_or G i [])
-      of_ring = canonical_of_ring ring (get_or G i []) (basis.monic.canonical i l)
+      of_ring = of_ring_at ring G basis.monic.canonical i l
 
       by_test : (b : Bool) → has_no_variables ring (get_or G i []) ≡ b → IsMember ring (other_members ring G ++ parametric_members ring G) (get_or G i [])
       by_test true e =
@@ -130,6 +119,9 @@ module _ (ring : Ring) (a : List ℕ) (field : IsField ring.modulus) (branch : C
             get_or_append_left (other_members ring G) (parametric_members ring G) [] k.0 k.1 ∙ k.2,
           )
 
+  in_parts : AllByRecursion (IsMember ring (other_members ring G ++ parametric_members ring G)) G
+  in_parts = all_by_places (IsMember ring (other_members ring G ++ parametric_members ring G)) [] G part_at
+
   generators_in_parts : (f : List Term) → IsMember ring (F ++ E) f → IsMember ring (other_members ring G ++ parametric_members ring G) f
   generators_in_parts f m = member_of_members ring G (other_members ring G ++ parametric_members ring G) pos in_parts f (same_generators.second f m)
 
@@ -141,15 +133,16 @@ module _ (ring : Ring) (a : List ℕ) (field : IsField ring.modulus) (branch : C
     -- the members of G with variables
     pub others_same : SameIdealAt ring a (other_members ring G) F
     others_same = record {
-      first = members_at ring a pos F E (other_members ring G) ok.polys ok.zero conditions_vanish (each_of _ (other_members ring G) member);
-      second = members_at ring a pos (other_members ring G) (parametric_members ring G) F parts_ok.1 parts_ok.0 zeros (each_of _ F generator);
+      first = members_at ring a pos F E (other_members ring G) ok.polys ok.zero conditions_vanish (all_by_places _ [] (other_members ring G) member);
+      second = members_at ring a pos (other_members ring G) (parametric_members ring G) F parts_ok.1 parts_ok.0 zeros (all_by_places _ [] F generator);
     }
       where
         member : (i : ℕ) → i < length (other_members ring G)
             → IsCanonical ring (get_or (other_members ring G) i []) × IsMember ring (F ++ E) (get_or (other_members ring G) i [])
         member i l =
             let k = (other_found ring G i l).0 in
-            (each_at (IsCanonical ring) (other_members ring G) parts_ok.1 i l, subst (λ f. IsMember ring (F ++ E) f) k.2 (basis.groebner.members k.0 k.1))
+            let inside : IsMember ring (F ++ E) (get_or G k.0 []) = member_at ring (F ++ E) G basis.groebner.members k.0 k.1 in
+            (canonical_at ring (other_members ring G) parts_ok.1 i l, subst (IsMember ring (F ++ E)) k.2 inside)
 
         generator : (i : ℕ) → i < length F
             → IsCanonical ring (get_or F i []) × IsMember ring (other_members ring G ++ parametric_members ring G) (get_or F i [])
@@ -202,22 +195,18 @@ module _ (ring : Ring) (a : List ℕ) (field : IsField ring.modulus) (branch : C
     -- and generates it
     pub one_same : SameIdealAt ring a (one ring ∷ []) F
     one_same = record {
-      first = member_of_members (variables_ring ring) (specialised ring a (one ring) ∷ []) (specialised_list ring a F) pos first_at;
+      first = member_of_members (variables_ring ring) (specialised ring a (one ring) ∷ []) (specialised_list ring a F) pos (one_at_point, tt);
       second = member_of_members (variables_ring ring) (specialised_list ring a F) (specialised ring a (one ring) ∷ []) pos second_at;
     }
       where
-        first_at : (i : ℕ) → i < 1 → IsMember (variables_ring ring) (specialised_list ring a F) (get_or (specialised ring a (one ring) ∷ []) i [])
-        first_at zero l = one_at_point
-        first_at (suc i) l = absurd (omega arith)
-
         one_there : IsMember (variables_ring ring) (specialised ring a (one ring) ∷ []) (one (variables_ring ring))
         one_there =
             same_member (variables_ring ring) (specialised ring a (one ring) ∷ []) pos (one_special ring a field.two)
             (generator_member (variables_ring ring) (specialised ring a (one ring) ∷ []) pos 0 (omega arith)
             (specialised_in_ring ring a pos (one ring) (canonical_of_ring ring (one ring) (one_canonical ring field.two))))
 
-        second_at : (i : ℕ) → i < length (specialised_list ring a F)
-            → IsMember (variables_ring ring) (specialised ring a (one ring) ∷ []) (get_or (specialised_list ring a F) i [])
-        second_at i l =
-            all_members (variables_ring ring) pos (specialised ring a (one ring) ∷ []) (get_or (specialised_list ring a F) i [])
-            (of_ring_at (variables_ring ring) (specialised_list ring a F) (specials_canonical ring a pos F ok.polys) i l) one_there
+        second_at : AllByRecursion (IsMember (variables_ring ring) (specialised ring a (one ring) ∷ [])) (specialised_list ring a F)
+        second_at =
+            all_weaker (IsCanonical (variables_ring ring)) (IsMember (variables_ring ring) (specialised ring a (one ring) ∷ [])) (specialised_list ring a F)
+            (specials_canonical ring a pos F ok.polys) (λ f k.
+            all_members (variables_ring ring) pos (specialised ring a (one ring) ∷ []) f (canonical_of_ring (variables_ring ring) f k) one_there)

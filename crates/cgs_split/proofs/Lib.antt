@@ -1,11 +1,9 @@
 pub mod InverseLemmas
 pub mod ConditionLemmas
 pub mod PartitionLemmas
-pub mod OneLemmas
 pub mod IdealLemmas
 pub mod NodeLemmas
 pub mod TreeLemmas
-pub mod StandardLemmas
 pub mod PreorderLemmas
 pub mod NodeRunLemmas
 pub mod PreparedLemmas
@@ -13,3 +11,4 @@ pub mod ChildLemmas
 pub mod CodeLemmas
 pub mod ExampleLemmas
 pub mod OfRingLemmas
+pub mod ShowingLemmas

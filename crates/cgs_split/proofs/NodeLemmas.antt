@@ -2,7 +2,7 @@
 use Rattle.std.proofs.Common.{ℕ, ◌≡◌, ◌<◌, inl, inr, Bool, true, false, cond, not, ◌==◌, List, [], ◌∷◌, ◌++◌, map, filter, refl, sym, ◌∙◌, subst, arith}
 use Rattle.std.proofs.lemmas.Bool.{and_parts}
 use Rattle.std.specs.List.{AllByRecursion}
-use Rattle.cgs_list.proofs.ListLemmas.{all_weaker}
+use Rattle.cgs_list.proofs.ListLemmas.{all_weaker, all_by_places}
 use Rattle.cgs_field.specs.Prime.{IsField}
 use Rattle.cgs_field.proofs.PrimeLemmas.{modulus_field}
 use Rattle.cgs_poly.specs.declared.ring.Ring.{Ring}
@@ -13,7 +13,6 @@ use Rattle.cgs_algebra.specs.Combination.{IsMember}
 use Rattle.cgs_algebra.specs.Specialisation.{specialised_list, IsParametric, AllVanish, NoneVanishes}
 use Rattle.cgs_algebra.specs.Stability.{parametric_members, other_members}
 use Rattle.cgs_algebra.proofs.MemberLemmas.{generator_member}
-use Rattle.cgs_algebra.proofs.SpecialisationLemmas.{of_ring_at}
 use Rattle.cgs_algebra.proofs.DicksonLemmas.{dickson_found, parametric_each}
 use Rattle.cgs_poly.specs.Monic.{monic_of}
 use Rattle.cgs_poly.proofs.OneLemmas.{one_canonical}
@@ -29,8 +28,9 @@ use Rattle.cgs_split.proofs.InverseLemmas.{monic_canonical}
 use Rattle.cgs_split.proofs.ConditionLemmas.{all_with, none_with, none_with_all, all_told, told_all, none_told, told_none, each_with, each_with_all}
 use Rattle.cgs_split.proofs.PartitionLemmas.{children_count}
 use Rattle.cgs_algebra.proofs.SameIdealLemmas.{same_ideal_back, minimal_of_same}
-use Rattle.cgs_split.proofs.OneLemmas.{one_basis}
-use Rattle.cgs_split.proofs.IdealLemmas.{each_of, specials_canonical, parts_ok, conditions_vanish, others_same, dickson_minimal, dickson_same, one_same}
+use Rattle.cgs_entry.proofs.OneLemmas.{one_basis}
+use Rattle.cgs_split.proofs.IdealLemmas.{specials_canonical, parts_ok, conditions_vanish, others_same, dickson_minimal, dickson_same, one_same}
+use Rattle.cgs_algebra.proofs.PlaceLemmas.{canonical_at, of_ring_at, not_zero_at, all_both}
 
 -- conditions in the parameters alone
 
@@ -80,19 +80,16 @@ module _ (ring : Ring) (r : IsRing ring) (branch : Case) (ok : IsBranch ring bra
   Sound child = IsSoundChild ring branch child
 
   dickson_ok : AllByRecursion (IsCanonical ring) M
-  dickson_ok = each_of (IsCanonical ring) M
-      (λ j l. let i = dickson_found ring M G basis.dickson j l in subst (λ f. IsCanonical ring f) i.2 (basis.monic.canonical i.0 i.1))
+  dickson_ok = all_by_places (IsCanonical ring) [] M
+      (λ j l. let i = dickson_found ring M G basis.dickson j l in subst (IsCanonical ring) i.2 (canonical_at ring G basis.monic.canonical i.0 i.1))
 
-  dickson_some : AllByRecursion (λ f. f ≡ [] → ⊥) M
-  dickson_some = each_of (λ f. f ≡ [] → ⊥) M (λ j l e. let i = dickson_found ring M G basis.dickson j l in basis.groebner.not_zero i.0 i.1 (i.2 ∙ e))
+  dickson_some : AllByRecursion (λ f. ¬ (f ≡ [])) M
+  dickson_some = all_by_places (λ f. ¬ (f ≡ [])) [] M (λ j l e.
+      let i = dickson_found ring M G basis.dickson j l in
+      not_zero_at G basis.groebner.not_zero i.0 i.1 (i.2 ∙ e))
 
   dickson_nonzero : AllByRecursion (λ g. IsCanonical ring g × ¬ (g ≡ [])) M
-  dickson_nonzero = both M dickson_ok dickson_some
-    where
-      both : (L : List (List Term)) → AllByRecursion (IsCanonical ring) L → AllByRecursion (λ f. f ≡ [] → ⊥) L
-          → AllByRecursion (λ g. IsCanonical ring g × ¬ (g ≡ [])) L
-      both [] h k = tt
-      both (f ∷ L) h k = ((h.0, k.0), both L h.1 k.1)
+  dickson_nonzero = all_both (IsCanonical ring) (λ f. ¬ (f ≡ [])) M dickson_ok dickson_some
 
   coefficients_ok : AllByRecursion (IsParametric ring) (nonconstant (map (lc_x ring) M))
   coefficients_ok = nonconstant_each (IsParametric ring) (map (lc_x ring) M) (coefficients_parametric ring M dickson_ok)
@@ -205,7 +202,7 @@ module _ (ring : Ring) (r : IsRing ring) (branch : Case) (ok : IsBranch ring bra
           all_weaker (λ g. (IsCanonical ring g × IsMember ring (branch.polys ++ branch.zero) g) × HasNoVariables ring g)
           (λ g. IsParametric ring g × IsMember ring (branch.polys ++ branch.zero) g) Z
           (parametric_each ring (λ g. IsCanonical ring g × IsMember ring (branch.polys ++ branch.zero) g) G
-          (each_of _ G (λ i l. (basis.monic.canonical i l, basis.groebner.members i l))))
+          (all_both (IsCanonical ring) (IsMember ring (branch.polys ++ branch.zero)) G basis.monic.canonical basis.groebner.members))
           (λ g p. (record { canonical = p.0.0; free = p.1 }, p.0.1))
 
   -- each point of the branch's region is one of exactly one child

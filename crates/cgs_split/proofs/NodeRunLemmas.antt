@@ -30,7 +30,7 @@ use Rattle.cgs_split.specs.Soundness.{IsBranch}
 use Rattle.cgs_split.specs.Trees.{entry_of, IsNode, empty, refused, solved, whole, divided, HasNoPoint, own_entries}
 use Rattle.cgs_split.specs.NodeRun.{Node, settled, by_kind, is_too_deep, after_basis, after_emptiness, node_of}
 use Rattle.cgs_split.proofs.ConditionLemmas.{region_told}
-use Rattle.cgs_split.proofs.IdealLemmas.{each_of, each_at}
+use Rattle.cgs_algebra.proofs.PlaceLemmas.{all_both}
 
 -- kinds
 
@@ -78,11 +78,11 @@ module _ (branch : Case) (path : List ℕ) (r : IsRing branch.ring) (ok : IsBran
     where
       reduced : IsReduced branch.ring G (branch.polys ++ branch.zero) × IsAscending branch.ring G
       reduced = basis_reduced branch.ring (branch.polys ++ branch.zero) G units left r
-          (each_at (IsCanonical branch.ring) (branch.polys ++ branch.zero) generators_ok) e
+          generators_ok e
 
       others : AreNonzero branch.ring (other_members branch.ring G)
       others = other_each branch.ring (λ g. IsCanonical branch.ring g × ¬ (g ≡ [])) G
-          (each_of (λ g. IsCanonical branch.ring g × ¬ (g ≡ [])) G (λ i l. (reduced.0.monic.canonical i l, reduced.0.minimal.groebner.not_zero i l)))
+          (all_both (IsCanonical branch.ring) (λ g. ¬ (g ≡ [])) G reduced.0.monic.canonical reduced.0.minimal.groebner.not_zero)
 
       by_one : (b : Bool) → is_one_alone branch.ring G ≡ b
           → IsOne (cond b (settled branch path (Solved G true))

@@ -67,7 +67,7 @@ module _ {J E : Type 0} (node : J → List ℕ → Option E × List J) (Q : J �
       all_append Holds (entry_of node branch path) (trees_from levels path 0 (node branch path).1) (own_each path (node branch path).0 k.0)
       (below_each levels path (preorder_each levels) 0 (node branch path).1 k.1)
 
-  tree_each : (height : J → List ℕ → ℕ) (branch : J) → Q branch → AllByRecursion P (map (λ found. found.1) (entries_of node height branch []))
+  pub tree_each : (height : J → List ℕ → ℕ) (branch : J) → Q branch → AllByRecursion P (map (λ found. found.1) (entries_of node height branch []))
   unfolding preorder
   tree_each height branch h =
       let levels : ℕ = suc (height branch []) in

@@ -15,7 +15,7 @@ use Rattle.cgs_dickson.specs.Dickson.{is_constant, minimal_dickson, has_minimal_
 use Rattle.cgs_dickson.proofs.KeptLemmas.{filter_passed, filter_failed}
 use Rattle.cgs_split.proofs.NodeRunLemmas.{other_filter}
 
-filter_each : (P : List Term → Type 0) (p : List Term → Bool) (L : List (List Term)) → AllByRecursion P L → AllByRecursion P (filter p L)
+pub filter_each : (P : List Term → Type 0) (p : List Term → Bool) (L : List (List Term)) → AllByRecursion P L → AllByRecursion P (filter p L)
 filter_each P p [] h = tt
 filter_each P p (f ∷ L) h = by_test (p f) (filter_each P p L h.1)
   where

@@ -11,7 +11,7 @@ use Rattle.cgs_poly.specs.Parameters.{variables_ring, specialised}
 use Rattle.cgs_algebra.specs.Combination.{IsMember}
 use Rattle.cgs_algebra.specs.Specialisation.{IsParametric, specialised_list}
 use Rattle.cgs_algebra.proofs.MemberLemmas.{generator_member}
-use Rattle.cgs_algebra.proofs.SpecialisationLemmas.{of_ring_at}
+use Rattle.cgs_algebra.proofs.PlaceLemmas.{of_ring_at}
 use Rattle.cgs_point.specs.Points.{IsPoint}
 use Rattle.cgs_poly.specs.Monic.{monic_of}
 use Rattle.cgs_poly.proofs.OneLemmas.{one_canonical}
@@ -29,7 +29,7 @@ use Rattle.cgs_split.specs.Trees.{entry_of, IsNode, empty, refused, solved, whol
 use Rattle.cgs_split.proofs.ConditionLemmas.{all_with_all, none_with_all, region_told, told_region, each_with_all}
 use Rattle.cgs_algebra.proofs.SameIdealLemmas.{same_ideal_trans}
 use Rattle.cgs_split.proofs.IdealLemmas.{members_at, specials_canonical}
-use Rattle.cgs_split.proofs.OneLemmas.{one_basis}
+use Rattle.cgs_entry.proofs.OneLemmas.{one_basis}
 use Rattle.cgs_split.proofs.NodeLemmas.{monic_parametric, basis_of_same, children_sound, children_partition}
 
 -- lists of branches and entries
@@ -129,7 +129,7 @@ module _ (ring : Ring) (r : IsRing ring) where
       one_there : (a : List ℕ) → IsPointOf ring a branch → IsMember (variables_ring ring) (specialised_list ring a branch.polys) (specialised ring a (one ring))
       one_there a i =
           members_at ring a pos branch.polys branch.zero (one ring ∷ []) ok.polys ok.zero i.vanish
-          ((one_canonical ring field.two, basis.members 0 (omega arith)), tt) (specialised ring a (one ring))
+          ((one_canonical ring field.two, basis.members.0), tt) (specialised ring a (one ring))
           (generator_member (variables_ring ring) (specialised_list ring a (one ring ∷ [])) pos 0 (omega arith)
           (of_ring_at (variables_ring ring) (specialised_list ring a (one ring ∷ []))
           (specials_canonical ring a pos (one ring ∷ []) (one_canonical ring field.two, tt)) 0 (omega arith)))

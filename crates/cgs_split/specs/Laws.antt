@@ -6,6 +6,7 @@ use Rattle.cgs_poly.specs.Polynomial.{Term, IsRing, IsCanonical, ArePolys}
 use Rattle.cgs_algebra.specs.Specialisation.{IsParametric}
 use Rattle.cgs_entry.specs.declared.entry.Entry.{Entry}
 use Rattle.cgs_poly.specs.Parameters.{IsCondition}
+use Rattle.cgs_entry.specs.Bases.{ShowsOne}
 use Rattle.cgs_entry.specs.Entries.{IsComprehensive, IsEntry}
 use Rattle.cgs_board.specs.Tree.{entries_of, Falls}
 use Rattle.cgs_split.specs.declared.kind.Limits.{Limits}
@@ -50,6 +51,11 @@ EntriesAreOfRing =
     (ring : Ring) (limits : Limits) (zero nonzero polys : List (List Term)) → IsRing ring → AllByRecursion (IsCondition ring) zero
     → AllByRecursion (IsCondition ring) nonzero → ArePolys ring polys
     → AllByRecursion (IsEntry ring) (entry_list ring limits zero nonzero polys)
+
+-- the basis of each, where there is one, is 1 alone or has variables in each member
+abbrev pub EntriesShowOne : Type 0
+EntriesShowOne = (ring : Ring) (limits : Limits) (zero nonzero polys : List (List Term))
+    → AllByRecursion (ShowsOne ring) (entry_list ring limits zero nonzero polys)
 
 -- heights fall
 abbrev pub HeightsFall : Type 0

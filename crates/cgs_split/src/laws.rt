@@ -2,8 +2,7 @@
 
 ghost use Rattle.cgs_split.specs.Examples.{ContradictionExample, GivenConditionExample, HighDegreeExample, LineExamples, NothingExample, TwoMembersExample};
 ghost use Rattle.cgs_split.specs.Examples.{MissingCoefficientIsRefused, NotMinimalIsRefused, OldZerosAreRefused, OverlapIsRefused};
-ghost use Rattle.cgs_split.specs.Laws.{EntriesAreOfRing, HeightsFall, ListIsComprehensive, NodeIsSound, NodesAreNodes, TreeIsComprehensive};
-ghost use Rattle.cgs_split.specs.Standard.{StandardMonomials};
+ghost use Rattle.cgs_split.specs.Laws.{EntriesAreOfRing, EntriesShowOne, HeightsFall, ListIsComprehensive, NodeIsSound, NodesAreNodes, TreeIsComprehensive};
 
 /// Each point of a good branch's region lies in its entry's region or in one child's, and no other point does; a basis is one of what
 /// the polynomials become there, and the children are good branches of the same ideal.
@@ -32,15 +31,14 @@ pub fn entries_are_of_ring()
     ensures { EntriesAreOfRing }
 {}
 
+/// That basis is 1 alone, or has variables in each member: so it shows whether 1 is in the ideal at its points.
+pub fn entries_show_one()
+    ensures { EntriesShowOne }
+{}
+
 /// The height of a branch is above that of its children.
 pub fn heights_fall()
     ensures { HeightsFall }
-{}
-
-/// At a point of a basis, a monomial in the variables is the lead of a member of the ideal there exactly where the variables' part of a lead
-/// of the basis divides it.
-pub fn standard_monomials()
-    ensures { StandardMonomials }
 {}
 
 /// Worked trees.

@@ -1,7 +1,6 @@
-use Rattle.std.proofs.Common.{◌≡◌, [], ap, subst}
+use Rattle.std.proofs.Common.{ap, subst}
 use Rattle.cgs_poly.specs.Polynomial.{ArePolys}
 use Rattle.cgs_split.specs.Cases.{Case}
-use Rattle.cgs_split.proofs.IdealLemmas.{each_of}
 use Rattle.cgs_split.proofs.branch.Branch.split.Goals as goal
 
 pub divided-requires-clause-polys : goal.divided-requires-clause-polys
@@ -10,4 +9,4 @@ divided-requires-clause-polys c =
     c.in-Ok.ensures.polys
 
 pub divided-requires-clause-nonzero : goal.divided-requires-clause-nonzero
-divided-requires-clause-nonzero c = each_of (λ g. ¬ (g ≡ [])) c.in-Ok.basis c.in-Ok.ensures.reduced.minimal.groebner.not_zero
+divided-requires-clause-nonzero c = c.in-Ok.ensures.reduced.minimal.groebner.not_zero

@@ -1,11 +1,11 @@
 -- The polynomial 1, and what it becomes at a point.
-use Rattle.std.proofs.Common.{ℕ, ◌≡◌, ◌+◌, ◌*◌, ◌%◌, ◌<◌, true, List, [], ◌∷◌, get_or, take, drop, replicate, sym, ap, ◌∙◌, subst, arith}
+use Rattle.std.proofs.Common.{ℕ, ◌≡◌, ◌+◌, ◌*◌, ◌%◌, ◌<◌, true, List, [], ◌∷◌, take, drop, replicate, sym, ap, ◌∙◌, subst, arith}
 use Rattle.std.proofs.Math.Nat.{add-zero, one-mul, mod-eq_of_lt}
 use Rattle.std.proofs.lemmas.List.{length-replicate, take-replicate, drop-replicate}
 use Rattle.cgs_exps.specs.Monomial.{divides}
 use Rattle.cgs_order.proofs.OrderLemmas.{cmp_self}
 use Rattle.cgs_poly.specs.declared.ring.Ring.{Ring}
-use Rattle.cgs_poly.specs.Polynomial.{Term, places, total, IsCanonical, one}
+use Rattle.cgs_poly.specs.Polynomial.{Term, places, total, one}
 use Rattle.cgs_poly.specs.Product.{leading_monomial}
 use Rattle.cgs_poly.specs.Parameters.{power_at, value_at, variables_ring, without_variables, lc_x, specialised}
 use Rattle.cgs_poly.proofs.SumLemmas.{Alike}
@@ -13,7 +13,8 @@ use Rattle.cgs_poly.proofs.OneLemmas.{one_canonical}
 use Rattle.cgs_poly.proofs.SpecialisedLemmas.{power_zeros}
 use Rattle.cgs_algebra.specs.Combination.{IsMember}
 use Rattle.cgs_algebra.specs.Specialisation.{specialised_list}
-use Rattle.cgs_algebra.proofs.OneLemmas.{divides_by_one, at_one}
+use Rattle.cgs_algebra.proofs.OneLemmas.{divides_by_one}
+use Rattle.cgs_algebra.proofs.PlaceLemmas.{lead_at_place}
 use Rattle.cgs_algebra.proofs.PointLemmas.{total_specialised}
 use Rattle.cgs_algebra.proofs.SpecialisedBasisLemmas.{specialised_canonical, specialised_not_zero, specialised_lead}
 use Rattle.cgs_algebra.proofs.PartLemmas.{without_drop}
@@ -75,17 +76,13 @@ module _ (ring : Ring) where
       leading = (one_leading, tt);
       minimal = record {
         groebner = record {
-          canonical = at_one (λ i. IsCanonical (variables_ring ring) (get_or ones i []))
-              (specialised_canonical ring a pos (one ring) (one_canonical ring two) one_leading);
-          members = at_one (λ i. IsMember (variables_ring ring) (specialised_list ring a F) (get_or ones i [])) m;
-          not_zero = at_one (λ i. ¬ (get_or ones i [] ≡ [])) (specialised_not_zero ring a pos (one ring) (one_canonical ring two) one_leading);
-          leads = λ f k h some. (
-            0,
-            omega arith,
-            subst (λ l. divides l (leading_monomial f) ≡ true) (sym one_special_lead)
-                (divides_by_one ring.variables (leading_monomial f)),
-          );
+          canonical = (specialised_canonical ring a pos (one ring) (one_canonical ring two) one_leading, tt);
+          members = (m, tt);
+          not_zero = (specialised_not_zero ring a pos (one ring) (one_canonical ring two) one_leading, tt);
+          leads = λ f k h some.
+              lead_at_place ones (leading_monomial f) 0 (omega arith)
+              (subst (λ l. divides l (leading_monomial f) ≡ true) (sym one_special_lead) (divides_by_one ring.variables (leading_monomial f)));
         };
-        apart = λ i j hi hj n d. n (omega (arith, hi, hj));
+        apart = λ i j d l k. absurd (omega (arith, l, k));
       };
     }

@@ -1,0 +1,4 @@
+pub mod LiftLemmas
+pub mod ZeroLemmas
+pub mod RefutationLemmas
+pub mod PartLemmas

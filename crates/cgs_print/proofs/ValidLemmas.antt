@@ -1,4 +1,4 @@
--- A problem that some bytes spell is valid.
+-- A problem that some bytes spell is valid, and has names of letters and at most eight variables.
 use Rattle.std.proofs.Common.{ℕ, ◌≡◌, ◌≤◌, List, [], ◌∷◌, ◌++◌, length, Option, Some, None, Ok, IfSome, bytes_eq, sym, subst, inl, inr, append_assoc, arith}
 use Rattle.std.proofs.lemmas.List.{append-nil, length-append}
 use Rattle.std.proofs.lemmas.Cmp.{nat_list_eq_equiv}
@@ -12,7 +12,8 @@ use Rattle.cgs_problem.specs.Drafts.{PartialProblem, names_of}
 use Rattle.cgs_problem.specs.Problems.{IsProblem, IsThesis, greatest_thesis_degree}
 use Rattle.cgs_problem.specs.Reading.{problem_of, problem_spelled}
 use Rattle.cgs_problem.specs.Sums.{Reader}
-use Rattle.cgs_print.proofs.MonomialLemmas.{AreNew, IsAllowed}
+use Rattle.cgs_print.proofs.LexemeLemmas.{IsName}
+use Rattle.cgs_print.proofs.MonomialLemmas.{all_append, AreNew, IsAllowed}
 use Rattle.cgs_print.proofs.PolynomialLemmas.{IsReadable}
 use Rattle.cgs_print.proofs.HeaderLemmas.{HasHeader}
 use Rattle.cgs_print.proofs.BodyLemmas.{reader_of, IsBody, new_beside}
@@ -82,3 +83,14 @@ pub spelled_problem : (bytes : List ℕ) (problem : Problem) → problem_spelled
 spelled_problem bytes problem e =
     let s = spelled_valid bytes problem e in
     subst IsProblem s.same (draft_valid s.draft s.header s.body)
+
+pub spelled_names : (bytes : List ℕ) (problem : Problem) → problem_spelled bytes ≡ Ok problem → AllByRecursion IsName problem.names
+spelled_names bytes problem e =
+    let s = spelled_valid bytes problem e in
+    let names = all_append IsName s.draft.variables s.draft.parameters s.header.variable_names.named s.header.parameter_names.named in
+    subst (λ (p : Problem). AllByRecursion IsName p.names) s.same names
+
+pub spelled_few_variables : (bytes : List ℕ) (problem : Problem) → problem_spelled bytes ≡ Ok problem → problem.ring.variables ≤ 8
+spelled_few_variables bytes problem e =
+    let s = spelled_valid bytes problem e in
+    subst (λ (p : Problem). p.ring.variables ≤ 8) s.same s.header.few_variables

@@ -202,7 +202,7 @@ fn count_line(entries: &[Entry], out: &mut Text) -> Result<(), AllocError>
 }
 
 /// The number of entries without a basis.
-fn count_refused(entries: &[Entry]) -> usize
+pub(crate) fn count_refused(entries: &[Entry]) -> usize
     ensures count { result ≡ count_by is_refused entries.now }
     ensures most { result ≤ length entries.now }
 {

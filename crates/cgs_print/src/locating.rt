@@ -16,7 +16,7 @@ use crate::push::push_all;
 use cgs_entry::EntryList;
 use cgs_locate::{Located, locate};
 use cgs_point::Point;
-use cgs_poly::{PolyList, Ring};
+use cgs_poly::PolyList;
 use cgs_problem::{Problem, Text};
 use itoa::Buffer;
 use std::alloc::{AllocError, Global};
@@ -88,10 +88,7 @@ fn special_lines(problem: &Problem, basis: &PolyList, out: &mut Text) -> Result<
         .names
         .as_slice()
         .split_at(problem.ring.variables as usize);
-    let ring = Ring {
-        parameters: 0,
-        ..problem.ring
-    };
+    let ring = problem.ring.variables_ring();
     polynomial_lines(b"basis", &ring, variables, basis.as_slice(), out)
 }
 

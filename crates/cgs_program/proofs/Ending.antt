@@ -1,20 +1,30 @@
 -- Which statuses come with a text, and what a run comes to whose text was written or not.
-use Rattle.std.proofs.Common.{◌≡◌, ℕ, List, [], ◌++◌, Result, Ok, Err, refl, sym, ap, ◌∙◌, subst, inl, inr, Bool, true, false, arith}
-use Rattle.std.specs.List.{list_any}
+use Rattle.std.proofs.Common.{◌≡◌, ◌==◌, ◌||◌, if◌then◌else◌, ℕ, List, [], ◌++◌, length, Result, Ok, Err, Option, Some, None, IfOk, refl, sym}
+use Rattle.std.proofs.Common.{ap, ◌∙◌, subst, inl, inr, Bool, true, false, arith}
+use Rattle.std.specs.List.{AllByRecursion, list_any}
+use Rattle.std.specs.Option.{option_map}
 use Rattle.std.proofs.KnownBytes.{Keeps-refl, Consumes-nil, Consumes-kept}
 use Rattle.cgs_io.specs.Seen.{Seen}
 use Rattle.cgs_board.specs.declared.event.Event.{Event}
 use Rattle.cgs_board.specs.History.{IsComplete}
 use Rattle.cgs_divide.specs.AutoreductionRun.{ListRun, done, out_of_budget, out_of_degree}
 use Rattle.cgs_basis.specs.BasisRun.{basis_run}
-use Rattle.cgs_entry.specs.Entries.{is_refused}
+use Rattle.cgs_poly.specs.Polynomial.{Term}
+use Rattle.cgs_discover.specs.Refutation.{refuted, extended}
+use Rattle.cgs_entry.specs.declared.entry.Entry.{Entry}
+use Rattle.cgs_entry.specs.Entries.{IsEntry, is_refused}
 use Rattle.cgs_problem.specs.declared.problem.Problem.{Problem}
 use Rattle.cgs_problem.specs.declared.fault.TextFault.{TextFault}
+use Rattle.cgs_problem.specs.Problems.{IsProblem}
 use Rattle.cgs_problem.specs.Reading.{problem_spelled}
 use Rattle.cgs_print.specs.History.{history_text}
+use Rattle.cgs_print.specs.Locating.{located_text}
+use Rattle.cgs_print.specs.Discovery.{discovered_text}
+use Rattle.cgs_split.specs.declared.kind.Limits.{Limits}
 use Rattle.cgs_split.specs.NodeRun.{node_of}
+use Rattle.cgs_system.specs.declared.solution.Solution.{Solution}
 use Rattle.cgs_words.specs.declared.plan.Command.{Command}
-use Rattle.cgs_words.specs.declared.plan.Command.TheVariants.{Check, Basis, Solve, Locate}
+use Rattle.cgs_words.specs.declared.plan.Command.TheVariants.{Check, Basis, Solve, Locate, Discover, Stress}
 use Rattle.cgs_words.specs.declared.plan.Plan.{Plan}
 use Rattle.cgs_words.specs.declared.plan.WordFault.{WordFault}
 use Rattle.cgs_program.specs.declared.status.Status.{Status}
@@ -22,12 +32,10 @@ use Rattle.cgs_program.specs.declared.status.Status.TheVariants as status
 use Rattle.cgs_program.specs.declared.reply.Reply.{Reply}
 use Rattle.cgs_program.specs.declared.reply.Halt.{Halt}
 use Rattle.cgs_program.specs.declared.reply.Halt.TheVariants as halt
-use Rattle.cgs_program.specs.declared.reply.Task.{Task}
-use Rattle.cgs_program.specs.declared.reply.Task.TheVariants as task
-use Rattle.cgs_program.specs.Due.{Got, nothing_read, whole, too_long, basis_answer, entries_answer, status_of, generators_of, entries_within, root_within}
-use Rattle.cgs_program.specs.Due.{limits_of, answer_of, asks_history, lacks_point, IsThe, IsListed, IsAnswer, IsServed, IsReply, IsDueTo, IsDueFor}
-use Rattle.cgs_program.specs.Due.{word_fault_text}
-use Rattle.cgs_program.specs.Run.{Took, TookSome, Settles, Writes, Ends, Finishes, Makes, Sets, ReadsTask, RepliesTo, Delivers}
+use Rattle.cgs_program.specs.Due.{Got, nothing_read, whole, too_long, answer, no_point, basis_answer, list_answer, pair_answer, discovered_answer, status_of}
+use Rattle.cgs_program.specs.Due.{generators_of, entries_within, root_within, limits_of, answer_of, own_problem, IsThe, IsWhole, IsAnswer, IsReply}
+use Rattle.cgs_program.specs.Due.{IsDueTo, IsDueFor, word_fault_text}
+use Rattle.cgs_program.specs.Run.{Took, TookSome, Settles, Writes, Ends, Finishes, Makes, RepliesTo, Delivers, IsFoundBy}
 
 -- a status with which a text is written
 abbrev IsWritten : Status → Type 0
@@ -48,6 +56,17 @@ list_written : (refused : Bool) → IsWritten (status_of refused)
 list_written true = tt
 list_written false = tt
 
+located_written : (none refused : Bool) (text : List ℕ) → IsWritten (if none then no_point else answer text (status_of refused)).end
+located_written true refused text = tt
+located_written false refused text = list_written refused
+
+discovered_written : (plan : Plan) (problem : Problem) (thesis : Option (List Term)) → IsWritten (discovered_answer (limits_of plan) problem thesis).end
+discovered_written plan problem None = tt
+discovered_written plan problem (Some thesis) =
+    let limits = limits_of plan in
+    list_written
+    (list_any is_refused (entries_within limits (refuted problem thesis)) || list_any is_refused (entries_within limits (extended problem thesis)))
+
 answer_written : (plan : Plan) (problem : Problem) (text : List ℕ) (end : Status) → IsAnswer plan problem text end → IsWritten end
 answer_written plan problem text end a = along end (answer_of plan problem).end a.1 (by_command plan.command refl)
   where
@@ -55,18 +74,18 @@ answer_written plan problem text end a = along end (answer_of plan problem).end 
     by_command Check e = rw e tt
     by_command Basis e = rw e (basis_written problem (basis_run problem.ring (generators_of problem) plan.budget))
     by_command Solve e = rw e (list_written (list_any is_refused (entries_within (limits_of plan) problem)))
-    by_command Locate e = rw e (list_written (list_any is_refused (entries_within (limits_of plan) problem)))
-
-served_written : (lacks : Bool) (plan : Plan) (problem : Problem) (text : List ℕ) (end : Status) → IsServed lacks plan problem text end → IsWritten end
-served_written false plan problem text end a = answer_written plan problem text end a
-served_written true plan problem text end a = along end status.Text a.1 tt
+    by_command Locate e =
+        let entries = entries_within (limits_of plan) problem in
+        rw e (located_written (length problem.points == 0) (list_any is_refused entries) (located_text problem entries))
+    by_command Discover e = rw e (discovered_written plan problem problem.thesis)
+    by_command (Stress number) e = rw e (list_written (list_any is_refused (entries_within (limits_of plan) problem)))
 
 reply_written : (plan : Plan) (spelled : Result Problem TextFault) (text : List ℕ) (end : Status) → IsReply plan spelled text end → IsWritten end
-reply_written plan (Ok problem) text end a = served_written (lacks_point plan problem) plan problem text end a
+reply_written plan (Ok problem) text end a = answer_written plan problem text end a
 reply_written plan (Err fault) text end a = along end status.Text a.1 tt
 
 due_written : (plan : Result Plan WordFault) (got : Got) (text : List ℕ) (end : Status) → IsDueFor plan got text end → IsWritten end
-due_written (Ok plan) nothing_read text end a = answer_written plan a.0 text end a.2
+due_written (Ok plan) nothing_read text end a = answer_written plan a.0 text end a.3
 due_written (Ok plan) (whole bytes) text end a = reply_written plan (problem_spelled bytes) text end a.1
 due_written (Ok plan) too_long text end a = along end status.Text a.2 tt
 due_written (Err fault) nothing_read text end a = along end status.Words a.1 tt
@@ -103,36 +122,35 @@ took_some nothing_read a b t = ([], omega arith, Consumes-kept a.bytes a.bytes b
 took_some (whole read) a b t = (read, omega (arith, t.0), t.1)
 took_some too_long a b t = (t.0, omega (arith, t.1), t.2)
 
--- what is set for one answer, where that makes another
-pub sets_more : {P Q : List ℕ → Status → Type 0} (plan : Plan) (r : Result Task Halt) → ((text : List ℕ) (end : Status) → P text end → Q text end)
-    → Sets r plan P → Sets r plan Q
-sets_more plan (Ok (task.Ready reply)) more m = more reply.text reply.status m
-sets_more plan (Ok (task.Solve problem)) more m = (m.0, λ text end listed. more text end (m.1 text end listed))
-sets_more plan (Err halt.Memory) more m = tt
-sets_more plan (Err halt.Source) more m = absurd m
+-- what is made as one answer, where that is another
+pub makes_more : {P Q : List ℕ → Status → Type 0} (r : Result Reply Halt) → ((text : List ℕ) (end : Status) → P text end → Q text end) → Makes r P → Makes r Q
+makes_more (Ok reply) more m = more reply.text reply.status m
+makes_more (Err halt.Memory) more m = tt
+makes_more (Err halt.Source) more m = absurd m
 
--- what the bytes that were read spell is what is asked
-pub sets_spelled : (plan : Plan) (bytes : List ℕ) (spelled : Result Problem TextFault) (r : Result Task Halt) → problem_spelled bytes ≡ spelled
-    → Sets r plan (IsReply plan spelled)
-    → Sets r plan (IsDueTo plan (whole bytes))
-sets_spelled plan bytes spelled r e m =
-    sets_more plan r (λ text end due. (refl, subst (λ (x : Result Problem TextFault). IsReply plan x text end) (sym e) due)) m
+-- what the bytes that were read spell is what is answered
+pub makes_spelled : (plan : Plan) (bytes : List ℕ) (spelled : Result Problem TextFault) (r : Result Reply Halt) → problem_spelled bytes ≡ spelled
+    → Makes r (IsReply plan spelled)
+    → Makes r (IsReply plan (problem_spelled bytes))
+makes_spelled plan bytes spelled r e m = subst (λ (x : Result Problem TextFault). Makes r (IsReply plan x)) (sym e) m
 
--- A task was set by what was read.
-pub read : (plan : Plan) (got : Got) (a b : Seen) (r : Result Task Halt) → Took got a b → b.faults ≡ a.faults → Sets r plan (IsDueTo plan got)
-    → ReadsTask plan a b r
-read plan got a b (Ok (task.Ready reply)) t calm m = record { got = got; taken = t; due = m; calm = calm }
-read plan got a b (Ok (task.Solve problem)) t calm m =
-    (m.0, took_some got a b t, calm, λ text end listed. record { got = got; taken = t; due = m.1 text end listed; calm = calm })
-read plan got a b (Err halt.Memory) t calm m = (took_some got a b t, calm)
-read plan got a b (Err halt.Source) t calm m = absurd m
+-- What was read, or that nothing was, is replied to.
+pub replied : (plan : Plan) (got : Got) (a b : Seen) (r : Result Reply Halt) → Took got a b → b.faults ≡ a.faults → Makes r (IsDueTo plan got)
+    → RepliesTo plan a b r
+replied plan got a b (Ok reply) t calm m = record { got = got; taken = t; due = m; calm = calm }
+replied plan got a b (Err halt.Memory) t calm m = (took_some got a b t, calm)
+replied plan got a b (Err halt.Source) t calm m = absurd m
 
--- What is made of the entries of the problem that was read was made.
-pub made : (plan : Plan) (problem : Problem) (a b : Seen) (r : Result Reply Halt) → ReadsTask plan a b (Ok (task.Solve problem))
-    → Makes r (IsListed plan problem) → RepliesTo plan a b r
-made plan problem a b (Ok reply) t m = t.3 reply.text reply.status m
-made plan problem a b (Err halt.Memory) t m = (t.1, t.2)
-made plan problem a b (Err halt.Source) t m = absurd m
+-- The problem that the command makes by itself is replied to, and the source is as it was.
+pub replied_unread : (plan : Plan) (problem : Problem) (a : Seen) (r : Result Reply Halt) → own_problem plan ≡ Some problem → IsProblem problem
+    → Makes r (IsAnswer plan problem)
+    → RepliesTo plan a a r
+replied_unread plan problem a r own valid m =
+    replied plan nothing_read a a r (Keeps-refl a.bytes) refl (makes_more r (λ text end answered. (problem, own, valid, answered)) m)
+
+-- A command that makes its problem by itself is not `discover`.
+pub own_is_no_discovery : (plan : Plan) (problem : Problem) → own_problem plan ≡ Some problem → plan.command ≡ Discover → ⊥
+own_is_no_discovery plan problem own asked = absurd (let none : own_problem plan ≡ None = rw asked refl in let no : None ≡ Some problem = sym none ∙ own in cc)
 
 ended : (plan : Plan) (a b c d : Seen) (r : Result Reply Halt) (end : Status) → RepliesTo plan a b r → Delivers r c d end → Ends (Ok plan) a b c d end
 ended plan a b c d (Ok reply) end m w = finished (Ok plan) a b c d reply.text reply.status end m w
@@ -151,12 +169,49 @@ pub delivered : (asked : Result Plan WordFault) (plan : Plan) (a b c d : Seen) (
     → Ends asked a b c d end
 delivered asked plan a b c d r end e m w = subst (λ (x : Result Plan WordFault). Ends x a b c d end) e (ended plan a b c d r end m w)
 
--- The history was put after a text.
-pub followed : (plan : Plan) (problem : Problem) (reply : Reply) (h : List Event) (r : Result Reply Halt) → asks_history plan ≡ true
-    → IsThe (entries_answer plan.command problem (entries_within (limits_of plan) problem)) reply.text reply.status
+-- The history was put after a list.
+pub followed : (plan : Plan) (problem : Problem) (reply : Reply) (h : List Event) (r : Result Reply Halt) → plan.history ≡ true
+    → IsThe (list_answer problem (entries_within (limits_of plan) problem)) reply.text reply.status
     → IsComplete node_of (root_within (limits_of plan) problem) plan.workers h
-    → Makes r (λ text end. (text ≡ reply.text ++ history_text h) × (end ≡ reply.status)) → Makes r (IsListed plan problem)
+    → Makes r (λ text end. (text ≡ reply.text ++ history_text h) × (end ≡ reply.status))
+    → Makes r (IsWhole plan.history plan problem (list_answer problem (entries_within (limits_of plan) problem)))
 followed plan problem reply h (Ok made) asked list complete m =
     rw asked ((h, complete, m.0 ∙ ap (λ (text : List ℕ). text ++ history_text h) list.0), m.1 ∙ list.1)
 followed plan problem reply h (Err halt.Memory) asked list complete m = tt
 followed plan problem reply h (Err halt.Source) asked list complete m = absurd m
+
+-- what was found of a problem, by its parts
+pub is_found_by : {E : Type 0} (plan : Plan) (problem : Problem) (r : Result Solution E)
+    → IfOk r (λ found. found.entries ≡ entries_within (limits_of plan) problem)
+    → IfOk r (λ found. IsComplete node_of (root_within (limits_of plan) problem) plan.workers found.history)
+    → IfOk r (λ found. AllByRecursion (IsEntry problem.ring) found.entries)
+    → IfOk r (IsFoundBy plan problem)
+is_found_by plan problem (Ok found) list history of_ring = record { list = list; history = history; of_ring = of_ring }
+is_found_by plan problem (Err short) list history of_ring = tt
+
+-- The lists were made of the two problems that are made of the thesis.
+pub discovered : (limits : Limits) (problem refutation extension : Problem) (thesis : Option (List Term)) (r : Result Reply Halt)
+    → option_map (refuted problem) thesis ≡ Some refutation → option_map (extended problem) thesis ≡ Some extension
+    → Makes r (IsThe (pair_answer limits refutation extension))
+    → Makes r (IsThe (discovered_answer limits problem thesis))
+discovered limits problem refutation extension None r first second m = absurd cc
+discovered limits problem refutation extension (Some thesis) r first second m =
+    let refuting : refuted problem thesis ≡ refutation = cc in
+    let extending : extended problem thesis ≡ extension = cc in
+    subst (λ (first : Problem). Makes r (IsThe (pair_answer limits first (extended problem thesis)))) (sym refuting)
+    (subst (λ (second : Problem). Makes r (IsThe (pair_answer limits refutation second))) (sym extending) m)
+
+-- what was printed of two lists, which are those of the two problems
+pub paired : (limits : Limits) (refutation extension : Problem) (refuting extending : List Entry) (old text : List ℕ) (end : Status)
+    → refuting ≡ entries_within limits refutation → extending ≡ entries_within limits extension → old ≡ []
+    → text ≡ old ++ discovered_text refutation refuting extension extending
+    → end ≡ status_of (list_any is_refused refuting || list_any is_refused extending)
+    → IsThe (pair_answer limits refutation extension) text end
+paired limits refutation extension refuting extending old text end first second none printed marked =
+    let all = entries_within limits refutation in (
+      printed ∙ ap (λ (xs : List ℕ). xs ++ discovered_text refutation refuting extension extending) none
+          ∙ ap (λ (xs : List Entry). discovered_text refutation xs extension extending) first
+          ∙ ap (λ (xs : List Entry). discovered_text refutation all extension xs) second,
+      marked ∙ ap (λ (xs : List Entry). status_of (list_any is_refused xs || list_any is_refused extending)) first
+          ∙ ap (λ (xs : List Entry). status_of (list_any is_refused all || list_any is_refused xs)) second,
+    )

@@ -1,3 +1,4 @@
 pub mod Ending
 pub mod Completing
+pub mod Refutable
 pub mod Promising

@@ -1,5 +1,5 @@
 -- The text that is due, and the status with which it is written.
-use Rattle.std.specs.Prelude.{◌≡◌, ◌==◌, ℕ, Bool, true, false, List, ◌++◌, length, codes, Option, Some, None, Result, Ok, Err}
+use Rattle.std.specs.Prelude.{◌≡◌, ◌==◌, ◌||◌, if◌then◌else◌, ℕ, Bool, true, false, List, ◌++◌, length, codes, Option, Some, None, Result, Ok, Err}
 use Rattle.std.specs.List.{list_any}
 use Rattle.cgs_poly.specs.Polynomial.{Term}
 use Rattle.cgs_divide.specs.AutoreductionRun.{ListRun, done, out_of_budget, out_of_degree}
@@ -16,12 +16,17 @@ use Rattle.cgs_split.specs.NodeRun.{node_of}
 use Rattle.cgs_split.specs.Trees.{root_case}
 use Rattle.cgs_problem.specs.declared.problem.Problem.{Problem}
 use Rattle.cgs_problem.specs.declared.fault.TextFault.{TextFault}
+use Rattle.cgs_problem.specs.Problems.{IsProblem}
 use Rattle.cgs_problem.specs.Reading.{problem_spelled}
 use Rattle.cgs_print.specs.Printing.{problem_text, basis_text, refusal_text, list_text, fault_text}
 use Rattle.cgs_print.specs.History.{history_text}
 use Rattle.cgs_print.specs.Locating.{located_text}
+use Rattle.cgs_print.specs.Discovery.{discovered_text}
+use Rattle.cgs_print.specs.Summary.{summary_text}
+use Rattle.cgs_discover.specs.Refutation.{refuted, extended}
+use Rattle.cgs_gen.specs.Generator.{problem_of}
 use Rattle.cgs_words.specs.declared.plan.Command.{Command}
-use Rattle.cgs_words.specs.declared.plan.Command.TheVariants.{Check, Basis, Solve, Locate}
+use Rattle.cgs_words.specs.declared.plan.Command.TheVariants.{Check, Basis, Solve, Locate, Discover, Stress}
 use Rattle.cgs_words.specs.declared.plan.Plan.{Plan}
 use Rattle.cgs_words.specs.declared.plan.WordFault.{WordFault}
 use Rattle.cgs_words.specs.declared.plan.WordFault.TheVariants as word
@@ -82,9 +87,14 @@ basis_answer problem (out_of_degree left) = answer (refusal_text Degree) status.
 abbrev pub list_answer : Problem → List Entry → Answer
 list_answer problem entries = answer (list_text problem entries) (status_of (list_any is_refused entries))
 
+-- what `locate` answers where the problem has no point
+abbrev pub no_point : Answer
+no_point = answer (codes "fault line 0 no-point\n") status.Text
+
 -- what `locate` answers where these are the entries
 abbrev pub located_answer : Problem → List Entry → Answer
-located_answer problem entries = answer (located_text problem entries) (status_of (list_any is_refused entries))
+located_answer problem entries =
+    if length problem.points == 0 then no_point else answer (located_text problem entries) (status_of (list_any is_refused entries))
 
 abbrev pub limits_of : Plan → Limits
 limits_of plan = record { budget = plan.budget; depth = plan.depth }
@@ -97,6 +107,25 @@ entries_within limits problem = entry_list problem.ring limits problem.zero prob
 abbrev pub root_within : Limits → Problem → Case
 root_within limits problem = root_case problem.ring limits problem.zero problem.nonzero problem.polys
 
+-- what `discover` answers where the problem has no thesis
+abbrev pub no_thesis : Answer
+no_thesis = answer (codes "fault line 0 no-thesis\n") status.Text
+
+-- what `discover` answers where these are the refutation and the problem with its thesis
+abbrev pub pair_answer : Limits → Problem → Problem → Answer
+pair_answer limits refutation extension =
+    answer (discovered_text refutation (entries_within limits refutation) extension (entries_within limits extension))
+    (status_of (list_any is_refused (entries_within limits refutation) || list_any is_refused (entries_within limits extension)))
+
+-- what `discover` answers for a thesis, if there is one
+abbrev pub discovered_answer : Limits → Problem → Option (List Term) → Answer
+discovered_answer limits problem None = no_thesis
+discovered_answer limits problem (Some thesis) = pair_answer limits (refuted problem thesis) (extended problem thesis)
+
+-- what `stress` answers where these are the entries of the problem that the number makes
+abbrev pub summary_answer : ℕ → Problem → List Entry → Answer
+summary_answer number problem entries = answer (summary_text number problem entries) (status_of (list_any is_refused entries))
+
 -- The answer for a problem, without a history. A further command is a further case.
 abbrev pub answer_of : Plan → Problem → Answer
 answer_of plan problem =
@@ -105,6 +134,8 @@ answer_of plan problem =
       | Basis ↦ basis_answer problem (basis_run problem.ring (generators_of problem) plan.budget)
       | Solve ↦ list_answer problem (entries_within (limits_of plan) problem)
       | Locate ↦ located_answer problem (entries_within (limits_of plan) problem)
+      | Discover ↦ discovered_answer (limits_of plan) problem problem.thesis
+      | Stress number ↦ summary_answer number problem (entries_within (limits_of plan) problem)
     ]
 
 -- the text and the status of an answer
@@ -113,7 +144,8 @@ IsThe wanted text end = (text ≡ wanted.text) × (end ≡ wanted.end)
 
 -- the plan asks for the history of the tree
 abbrev pub asks_history : Plan → Bool
-asks_history plan = elim plan.command [ Check ↦ false | Basis ↦ false | Solve ↦ plan.history | Locate ↦ false ]
+asks_history plan =
+    elim plan.command [ Check ↦ false | Basis ↦ false | Solve ↦ plan.history | Locate ↦ false | Discover ↦ false | Stress number ↦ false ]
 
 -- After the first text comes, where it is asked, that of a history in which so many workers claim and give back each branch of a tree.
 abbrev pub IsFollowed : Bool → Case → ℕ → List ℕ → List ℕ → Type 0
@@ -124,43 +156,23 @@ IsFollowed true root workers first text = (h : List Event) × IsComplete node_of
 abbrev pub IsWhole : Bool → Plan → Problem → Answer → List ℕ → Status → Type 0
 IsWhole asked plan problem wanted text end = IsFollowed asked (root_within (limits_of plan) problem) plan.workers wanted.text text × (end ≡ wanted.end)
 
--- the answer that is made of entries: for `locate` where the points lie, else the list
-abbrev pub entries_answer : Command → Problem → List Entry → Answer
-entries_answer Locate problem entries = located_answer problem entries
-entries_answer Check problem entries = list_answer problem entries
-entries_answer Basis problem entries = list_answer problem entries
-entries_answer Solve problem entries = list_answer problem entries
-
--- what `solve` and `locate` answer: that of the entries of the problem's tree, with a history of the tree after it where it is asked
-abbrev pub IsListed : Plan → Problem → List ℕ → Status → Type 0
-IsListed plan problem text end =
-    IsWhole (asks_history plan) plan problem (entries_answer plan.command problem (entries_within (limits_of plan) problem)) text end
-
 -- The status and the text of the list are a function of the plan and the problem; the history depends on the workers.
 abbrev pub IsAnswer : Plan → Problem → List ℕ → Status → Type 0
 IsAnswer plan problem text end = IsWhole (asks_history plan) plan problem (answer_of plan problem) text end
 
--- the problem has no point, and the plan's command asks where its points lie
-abbrev pub lacks_point : Plan → Problem → Bool
-lacks_point plan problem = elim plan.command [ Check ↦ false | Basis ↦ false | Solve ↦ false | Locate ↦ length problem.points == 0 ]
-
--- the answer for a problem, unless a point is lacking
-abbrev pub IsServed : Bool → Plan → Problem → List ℕ → Status → Type 0
-IsServed false plan problem text end = IsAnswer plan problem text end
-IsServed true plan problem text end = (text ≡ codes "fault line 0 no-point\n") × (end ≡ status.Text)
-
 -- the answer for what bytes spell
 abbrev pub IsReply : Plan → Result Problem TextFault → List ℕ → Status → Type 0
-IsReply plan (Ok problem) text end = IsServed (lacks_point plan problem) plan problem text end
+IsReply plan (Ok problem) text end = IsAnswer plan problem text end
 IsReply plan (Err fault) text end = (text ≡ fault_text fault) × (end ≡ status.Text)
 
--- the problem that a command makes by itself, without reading; each of these reads
+-- the problem that a command makes by itself, without reading
 abbrev pub own_problem : Plan → Option Problem
-own_problem plan = None
+own_problem plan =
+    elim plan.command [ Check ↦ None | Basis ↦ None | Solve ↦ None | Locate ↦ None | Discover ↦ None | Stress number ↦ Some (problem_of number) ]
 
 -- What a plan asks of what was read.
 abbrev pub IsDueTo : Plan → Got → List ℕ → Status → Type 0
-IsDueTo plan nothing_read text end = (problem : Problem) × (own_problem plan ≡ Some problem) × IsAnswer plan problem text end
+IsDueTo plan nothing_read text end = (problem : Problem) × (own_problem plan ≡ Some problem) × IsProblem problem × IsAnswer plan problem text end
 IsDueTo plan (whole bytes) text end = (own_problem plan ≡ None) × IsReply plan (problem_spelled bytes) text end
 IsDueTo plan too_long text end = (own_problem plan ≡ None) × (text ≡ codes "fault line 0 long\n") × (end ≡ status.Text)
 

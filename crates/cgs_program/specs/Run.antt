@@ -1,12 +1,20 @@
 -- How a run ends.
-use Rattle.std.specs.Prelude.{◌≡◌, ◌≤◌, ◌⊎◌, ℕ, ◌+◌, false, List, length, Some, None, Result, Ok, Err, IsOk}
+use denote.Ref.{Bor}
+use denote.Param.Members.{Shared}
+use Rattle.std.specs.Prelude.{◌≡◌, ◌<◌, ◌≤◌, ◌⊎◌, ℕ, ◌+◌, false, List, length, bytes_eq, Some, None, Result, Ok, Err, IsOk, IfOk}
+use Rattle.std.specs.List.{AllByRecursion, list_any}
 use Rattle.std.specs.Io.KnownBytes.{Consumes, IsAtEnd, Keeps, Appends}
 use Rattle.cgs_io.specs.Causes.{Rose}
 use Rattle.cgs_io.specs.Seen.{Seen, IsCalm}
 use Rattle.cgs_io.specs.Streams.{AppendsPrefix}
+use Rattle.cgs_board.specs.History.{IsComplete}
+use Rattle.cgs_discover.specs.Refutation.{y_name}
+use Rattle.cgs_entry.specs.Entries.{IsEntry}
 use Rattle.cgs_problem.specs.declared.problem.Problem.{Problem}
 use Rattle.cgs_problem.specs.Problems.{IsProblem}
 use Rattle.cgs_problem.specs.Reading.{problem_spelled}
+use Rattle.cgs_split.specs.NodeRun.{node_of}
+use Rattle.cgs_system.specs.declared.solution.Solution.{Solution}
 use Rattle.cgs_words.specs.declared.plan.Plan.{Plan}
 use Rattle.cgs_words.specs.declared.plan.WordFault.{WordFault}
 use Rattle.cgs_program.specs.declared.status.Status.{Status}
@@ -14,10 +22,8 @@ use Rattle.cgs_program.specs.declared.status.Status.TheVariants as status
 use Rattle.cgs_program.specs.declared.reply.Reply.{Reply}
 use Rattle.cgs_program.specs.declared.reply.Halt.{Halt}
 use Rattle.cgs_program.specs.declared.reply.Halt.TheVariants as halt
-use Rattle.cgs_program.specs.declared.reply.Task.{Task}
-use Rattle.cgs_program.specs.declared.reply.Task.TheVariants as task
 use Rattle.cgs_words.specs.Words.{plan_of}
-use Rattle.cgs_program.specs.Due.{Got, nothing_read, whole, too_long, limit, own_problem, lacks_point, IsListed, IsDueFor, IsAnswer}
+use Rattle.cgs_program.specs.Due.{Got, nothing_read, whole, too_long, limit, limits_of, entries_within, root_within, own_problem, IsDueFor, IsAnswer}
 
 -- what was taken from the source
 abbrev pub Took : Got → Seen → Seen → Type 0
@@ -86,14 +92,24 @@ Ends plan source source_now sink sink_now end = Writes plan source source_now si
 abbrev pub IsRun : List (List ℕ) → Seen → Seen → Seen → Seen → Status → Type 0
 IsRun words source source_now sink sink_now end = Ends (plan_of words) source source_now sink sink_now end
 
--- What reading leaves of the source: a reply, or a problem of whose entries the reply has to be made.
-abbrev pub ReadsTask : Plan → Seen → Seen → Result Task Halt → Type 0
-ReadsTask plan before now (Ok (task.Ready reply)) = Settles (Ok plan) before now reply.text reply.status
-ReadsTask plan before now (Ok (task.Solve problem)) =
-    IsProblem problem × TookSome before now × IsCalm before now
-    × ((text : List ℕ) (end : Status) → IsListed plan problem text end → Settles (Ok plan) before now text end)
-ReadsTask plan before now (Err halt.Source) = Reads (Ok plan) × TookSome before now × Fails before now
-ReadsTask plan before now (Err halt.Memory) = TookSome before now × IsCalm before now
+-- what is found of a problem within the limits of a plan
+pub record IsFoundBy (plan : Plan) (problem : Problem) (found : Solution) : Type 0 where
+  pub list : found.entries ≡ entries_within (limits_of plan) problem
+  pub history : IsComplete node_of (root_within (limits_of plan) problem) plan.workers found.history
+  pub of_ring : AllByRecursion (IsEntry problem.ring) found.entries
+
+-- A way of solving problems may be called with workers and a valid problem, and finds what is found of it, unless memory is short.
+module _ {F E : Type 0} (calls : Shared F (Plan × (Bor Problem × Unit {0})) (Result Solution E)) (solve : F) where
+  abbrev pub MaySolve : Type 0
+  MaySolve = (plan : Plan) (problem : Bor Problem) → 0 < plan.workers → IsProblem problem.now → calls.pre solve (plan, (problem, tt))
+
+  abbrev pub Solves : Type 0
+  Solves = (plan : Plan) (problem : Bor Problem) (found : Result Solution E) → calls.post solve (plan, (problem, tt)) found
+      → IfOk found (IsFoundBy plan problem.now)
+
+-- The problem has room for one more variable, and no name like its.
+abbrev pub IsRefutable : Problem → Type 0
+IsRefutable problem = (problem.ring.variables ≤ 8) × (list_any (bytes_eq y_name) problem.names ≡ false)
 
 -- What making a reply leaves of the source.
 abbrev pub RepliesTo : Plan → Seen → Seen → Result Reply Halt → Type 0
@@ -113,32 +129,32 @@ Makes (Ok reply) P = P reply.text reply.status
 Makes (Err halt.Memory) P = Unit {0}
 Makes (Err halt.Source) P = ⊥
 
--- A reply is ready as it should be, or is to be made of the entries of a problem, unless memory was short.
-abbrev pub Sets : Result Task Halt → Plan → (List ℕ → Status → Type 0) → Type 0
-Sets (Ok (task.Ready reply)) plan P = P reply.text reply.status
-Sets (Ok (task.Solve problem)) plan P = IsProblem problem × ((text : List ℕ) (end : Status) → IsListed plan problem text end → P text end)
-Sets (Err halt.Memory) plan P = Unit {0}
-Sets (Err halt.Source) plan P = ⊥
-
 -- What a reply, or the want of one, leaves of the sink, and the status.
 abbrev pub Delivers : Result Reply Halt → Seen → Seen → Status → Type 0
 Delivers (Ok reply) before now end = Finishes reply.text reply.status before now end
 Delivers (Err halt.Source) before now end = (end ≡ status.Source) × (now ≡ before)
 Delivers (Err halt.Memory) before now end = (end ≡ status.Memory) × (now ≡ before)
 
--- Words, bytes and counts with which a run has to come to its answer.
-pub record Accepts (words : List (List ℕ)) (source source_now sink sink_now : Seen) (plan : Plan) (bytes : List ℕ) (problem : Problem) : Type 0 where
-  pub planned : plan_of words ≡ Ok plan
-  pub reads : own_problem plan ≡ None
+-- The bytes that the source has left, at most as many as the limit, spell the problem.
+pub record Spells (source : Seen) (problem : Problem) : Type 0 where
+  pub bytes : List ℕ
   pub told : source.bytes ≡ Some bytes
   pub fits : length bytes ≤ limit
   pub spelled : problem_spelled bytes ≡ Ok problem
-  pub pointed : lacks_point plan problem ≡ false
+
+-- The problem that has to be answered: the one that the command makes by itself, or else the one that the source spells.
+abbrev pub HasProblem : Plan → Seen → Problem → Type 0
+HasProblem plan source problem = (own_problem plan ≡ Some problem) ⊎ ((own_problem plan ≡ None) × Spells source problem)
+
+-- Words, a problem and counts with which a run has to come to its answer.
+pub record Accepts (words : List (List ℕ)) (source source_now sink sink_now : Seen) (plan : Plan) (problem : Problem) : Type 0 where
+  pub planned : plan_of words ≡ Ok plan
+  pub given : HasProblem plan source problem
   pub source_sound : Rose source.faults source_now.faults → ⊥
   pub sink_sound : Rose sink.faults sink_now.faults → ⊥
 
 -- What is accepted is answered, unless memory is short.
 abbrev pub Completes : List (List ℕ) → Seen → Seen → Seen → Seen → Status → Type 0
 Completes words source source_now sink sink_now end =
-    (plan : Plan) (bytes : List ℕ) (problem : Problem) → Accepts words source source_now sink sink_now plan bytes problem
+    (plan : Plan) (problem : Problem) → Accepts words source source_now sink sink_now plan problem
     → (end ≡ status.Memory) ⊎ ((text : List ℕ) × IsAnswer plan problem text end × Appends sink.bytes sink_now.bytes text)

@@ -82,11 +82,17 @@ const SOLVE_WITH_HISTORY: &[&[u8]] = &[b"solve", b"--history", b"--workers", b"6
 
 const LOCATE: &[&[u8]] = &[b"locate"];
 
+const DISCOVER: &[&[u8]] = &[b"discover"];
+
+const STRESS_OF_ONE_UNIT: &[&[u8]] = &[b"stress", b"0", b"--budget", b"1"];
+
 const SOLV: &[&[u8]] = &[b"solv"];
 
 const CHECK_X: &[&[u8]] = &[b"check", b"x"];
 
 const NEVER: &[u64] = &[];
+
+const FIRST: &[u64] = &[0];
 
 const SECOND: &[u64] = &[1];
 
@@ -158,6 +164,7 @@ fn answers(rt: HostRuntime) -> Result<(), Fail> {
             Status::Done,
         ),
         (LOCATE, LINE, b"fault line 0 no-point\n", Status::Text),
+        (DISCOVER, LINE, b"fault line 0 no-thesis\n", Status::Text),
     ];
     for (words, input, written, wanted) in rows {
         let input = Vec::from_slice(alloc, input)?;
@@ -207,6 +214,8 @@ fn reads_up_to_the_limit(rt: HostRuntime) -> Result<(), Fail> {
         (CHECK, 1048577, b"fault line 0 long\n"),
         (LOCATE, 1048576, b"fault line 2 end\n"),
         (LOCATE, 1048577, b"fault line 0 long\n"),
+        (DISCOVER, 1048576, b"fault line 2 end\n"),
+        (DISCOVER, 1048577, b"fault line 0 long\n"),
     ];
     for (words, bytes, written) in rows {
         let mut input = Vec::from_elem(alloc, b'#', bytes - 1)?;
@@ -215,5 +224,18 @@ fn reads_up_to_the_limit(rt: HostRuntime) -> Result<(), Fail> {
         assert_eq!(rt; sink.written(), written);
         assert_eq!(rt; status, Status::Text);
     }
+    Ok(())
+}
+
+#[test]
+fn stress_reads_nothing(rt: HostRuntime) -> Result<(), Fail> {
+    let alloc = rt.alloc();
+    let input = Vec::from_slice(alloc, LINE)?;
+    let (status, sink) = run(alloc, STRESS_OF_ONE_UNIT, input, FIRST, NEVER)?;
+    assert_eq!(rt;
+        sink.written(),
+        b"stress 0\nsegments 0\nrefused 1\nsum 3327\n".as_slice()
+    );
+    assert_eq!(rt; status, Status::Partial);
     Ok(())
 }

@@ -1,17 +1,20 @@
 //! The top call, by one worker or by many.
 
 ghost use Rattle.std.specs.Prelude.{◌≡◌, ◌<◌};
+ghost use Rattle.cgs_problem.specs.Problems.{IsProblem};
 ghost use Rattle.cgs_program.specs.Due.{word_fault_text};
-ghost use Rattle.cgs_program.specs.Run.{IsRun, Completes, Finishes, RepliesTo, Delivers};
-ghost use Rattle.cgs_program.specs.Promises.{KeepsBasis, KeepsSystem, KeepsLocated};
+ghost use Rattle.cgs_program.specs.Run.{IsRun, Completes, MaySolve, Solves, Finishes, Delivers};
+ghost use Rattle.cgs_program.specs.Promises.{KeepsBasis, KeepsSystem, KeepsLocated, KeepsDiscovered, KeepsSummary, KeepsAll};
 
-use crate::reply::{Halt, Reply, Task, read_task};
+use crate::reply::{Halt, Reply, make_reply};
 use crate::solve::{solved, solved_alone};
 use crate::status::Status;
 use cgs_io::{Failed, Sink, Source, WordList, write_all};
+use cgs_problem::Problem;
+use cgs_system::Solution;
 use cgs_words::{Plan, WordFault, read_words};
 use cgs_worker::Gate;
-use std::alloc::Global;
+use std::alloc::{AllocError, Global};
 use std::sync::Wait;
 use std::thread::Threads;
 
@@ -30,8 +33,19 @@ pub fn run<R: Threads + Wait + Sync, S: Source, K: Sink, G: Gate + Sync>(
     ensures basis { KeepsBasis words.now (S.seen source.old) (S.seen source.new) (K.seen sink.old) (K.seen sink.new) result }
     ensures system { KeepsSystem words.now (S.seen source.old) (S.seen source.new) (K.seen sink.old) (K.seen sink.new) result }
     ensures located { KeepsLocated words.now (S.seen source.old) (S.seen source.new) (K.seen sink.old) (K.seen sink.new) result }
+    ensures discovered { KeepsDiscovered words.now (S.seen source.old) (S.seen source.new) (K.seen sink.old) (K.seen sink.new) result }
+    ensures summary { KeepsSummary words.now (S.seen source.old) (S.seen source.new) (K.seen sink.old) (K.seen sink.new) result }
 {
-    run_words(rt, alloc, words, source, sink, gate)
+    run_words(
+        alloc,
+        words,
+        source,
+        sink,
+        &|plan: Plan, problem: &Problem|
+            requires workers { 0 < plan.workers }
+            requires problem { IsProblem problem.now }
+        { solved(rt, alloc, plan, problem, gate) },
+    )
 }
 
 /// The same by one worker, which does the work of all. It never waits.
@@ -46,74 +60,51 @@ pub fn run_alone<S: Source, K: Sink>(
     ensures basis { KeepsBasis words.now (S.seen source.old) (S.seen source.new) (K.seen sink.old) (K.seen sink.new) result }
     ensures system { KeepsSystem words.now (S.seen source.old) (S.seen source.new) (K.seen sink.old) (K.seen sink.new) result }
     ensures located { KeepsLocated words.now (S.seen source.old) (S.seen source.new) (K.seen sink.old) (K.seen sink.new) result }
+    ensures discovered { KeepsDiscovered words.now (S.seen source.old) (S.seen source.new) (K.seen sink.old) (K.seen sink.new) result }
+    ensures summary { KeepsSummary words.now (S.seen source.old) (S.seen source.new) (K.seen sink.old) (K.seen sink.new) result }
 {
-    run_words_alone(alloc, words, source, sink)
+    run_words(
+        alloc,
+        words,
+        source,
+        sink,
+        &|plan: Plan, problem: &Problem| solved_alone(alloc, plan, problem),
+    )
 }
 
-/// The run itself; that it is complete follows.
-fn run_words<R: Threads + Wait + Sync, S: Source, K: Sink, G: Gate + Sync>(
-    rt: &R,
+/// The run, by a way of solving problems, with all that is promised of it.
+fn run_words<S: Source, K: Sink, F: Fn(Plan, &Problem) -> Result<Solution, AllocError>>(
     alloc: Global,
     words: &WordList,
     source: &mut S,
     sink: &mut K,
-    gate: &G,
+    solve: &F,
 ) -> Status
+    requires callable { MaySolve F.Fn solve.now }
+    requires solves { Solves F.Fn solve.now }
+    ensures { KeepsAll words.now (S.seen source.old) (S.seen source.new) (K.seen sink.old) (K.seen sink.new) result }
+{
+    run_plan(alloc, words, source, sink, solve)
+}
+
+/// The run itself; the other promises follow.
+fn run_plan<S: Source, K: Sink, F: Fn(Plan, &Problem) -> Result<Solution, AllocError>>(
+    alloc: Global,
+    words: &WordList,
+    source: &mut S,
+    sink: &mut K,
+    solve: &F,
+) -> Status
+    requires callable { MaySolve F.Fn solve.now }
+    requires solves { Solves F.Fn solve.now }
     ensures { IsRun words.now (S.seen source.old) (S.seen source.new) (K.seen sink.old) (K.seen sink.new) result }
 {
     let plan = match read_words(words) {
         Ok(plan) => plan,
         Err(fault) => return finish(sink, fault_line(fault), Status::Words),
     };
-    let reply = make_reply(rt, alloc, plan, source, gate);
+    let reply = make_reply(alloc, plan, source, solve);
     deliver(sink, reply)
-}
-
-/// The same by one worker.
-fn run_words_alone<S: Source, K: Sink>(
-    alloc: Global,
-    words: &WordList,
-    source: &mut S,
-    sink: &mut K,
-) -> Status
-    ensures { IsRun words.now (S.seen source.old) (S.seen source.new) (K.seen sink.old) (K.seen sink.new) result }
-{
-    let plan = match read_words(words) {
-        Ok(plan) => plan,
-        Err(fault) => return finish(sink, fault_line(fault), Status::Words),
-    };
-    let reply = make_reply_alone(alloc, plan, source);
-    deliver(sink, reply)
-}
-
-/// Reads the source, and makes the text due.
-fn make_reply<R: Threads + Wait + Sync, S: Source, G: Gate + Sync>(
-    rt: &R,
-    alloc: Global,
-    plan: Plan,
-    source: &mut S,
-    gate: &G,
-) -> Result<Reply, Halt>
-    requires { 0 < plan.workers }
-    ensures { RepliesTo plan (S.seen source.old) (S.seen source.new) result }
-{
-    match read_task(alloc, plan, source) {
-        Ok(Task::Ready(reply)) => Ok(reply),
-        Ok(Task::Solve(problem)) => solved(rt, alloc, plan, &problem, gate),
-        Err(halt) => Err(halt),
-    }
-}
-
-/// The same by one worker.
-fn make_reply_alone<S: Source>(alloc: Global, plan: Plan, source: &mut S) -> Result<Reply, Halt>
-    requires { 0 < plan.workers }
-    ensures { RepliesTo plan (S.seen source.old) (S.seen source.new) result }
-{
-    match read_task(alloc, plan, source) {
-        Ok(Task::Ready(reply)) => Ok(reply),
-        Ok(Task::Solve(problem)) => solved_alone(alloc, plan, &problem),
-        Err(halt) => Err(halt),
-    }
 }
 
 /// Writes a reply that was made, or tells why there is none.

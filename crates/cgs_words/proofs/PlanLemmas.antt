@@ -1,5 +1,7 @@
 -- A plan has 1 to 64 workers.
-use Rattle.std.proofs.Common.{◌≡◌, ℕ, ◌<◌, ◌≤◌, List, [], ◌∷◌, Result, Ok, Err, Option, Some, None, IfOk, Bool, true, false, cond, ◌&&◌, nat_le, refl, arith}
+use Rattle.std.proofs.Common.{◌≡◌, ℕ, ◌<◌, ◌≤◌, List, [], ◌∷◌, Result, Ok, Err, Option, Some, None, IfOk, Bool, true, false, cond, ◌&&◌, nat_le, refl}
+use Rattle.std.proofs.Common.{codes, arith}
+use Rattle.std.specs.Str.{bytes_eq}
 use Rattle.std.specs.Option.{unwrap_or}
 use Rattle.std.specs.Str.Parse.{digits_value}
 use Rattle.cgs_words.specs.declared.options.Options.{Options}
@@ -8,12 +10,13 @@ use Rattle.cgs_words.specs.declared.options.Name.TheVariants.{Valued, History}
 use Rattle.cgs_words.specs.declared.options.Limit.{Limit}
 use Rattle.cgs_words.specs.declared.options.Limit.TheVariants.{Workers, Budget, Depth}
 use Rattle.cgs_words.specs.declared.plan.Command.{Command}
+use Rattle.cgs_words.specs.declared.plan.Command.TheVariants.{Stress}
 use Rattle.cgs_words.specs.declared.plan.Plan.{Plan}
 use Rattle.cgs_words.specs.declared.plan.WordFault.{WordFault}
 use Rattle.cgs_words.specs.declared.plan.WordFault.TheVariants as fault
 use Rattle.cgs_list.specs.Results.{and_then}
 use Rattle.cgs_words.specs.Words.{is_numeral, number_in, most_workers, most_budget, most_depth, no_options, new_option, with_value, by_name}
-use Rattle.cgs_words.specs.Words.{options_of, value_of, command_of, usual_workers, plan_with, plan_of}
+use Rattle.cgs_words.specs.Words.{options_of, value_of, command_of, usual_workers, plan_with, optioned, most_stress, stress_of, plan_of}
 
 -- no number of workers yet, or one from 1 to the most
 abbrev FewWorkers : Option ℕ → Type 0
@@ -83,20 +86,28 @@ mutual
 abbrev pub HasFewWorkers : Plan → Type 0
 HasFewWorkers plan = (0 < plan.workers) × (plan.workers ≤ most_workers)
 
--- Each plan has some worker, and not more than the most.
-pub workers_few : (words : List (List ℕ)) → IfOk (plan_of words) HasFewWorkers
-workers_few [] = tt
-workers_few (word ∷ words) = then_keeps HasFewWorkers (command_of word) (λ command. and_then given (plan command)) from_options
+optioned_few : (command : Command) (words : List (List ℕ)) → IfOk (optioned command words) HasFewWorkers
+optioned_few command words =
+    then_holds Few HasFewWorkers (options_of no_options words) (λ options. Ok (plan_with command options)) (options_few words no_options tt)
+    (λ options few. usual options.workers few)
   where
-    given : Result Options WordFault
-    given = options_of no_options words
-
-    plan : Command → Options → Result Plan WordFault
-    plan command options = Ok (plan_with command options)
-
     usual : (workers : Option ℕ) → FewWorkers workers → (0 < unwrap_or workers usual_workers) × (unwrap_or workers usual_workers ≤ most_workers)
     usual None few = (omega arith, omega arith)
     usual (Some n) few = few
 
-    from_options : (command : Command) → IfOk (and_then given (plan command)) HasFewWorkers
-    from_options command = then_holds Few HasFewWorkers given (plan command) (options_few words no_options tt) (λ options few. usual options.workers few)
+pub stress_few : (words : List (List ℕ)) → IfOk (stress_of words) HasFewWorkers
+stress_few [] = tt
+stress_few (word ∷ words) =
+    then_keeps HasFewWorkers (number_in 0 most_stress word) (λ number. optioned (Stress number) words) (λ number. optioned_few (Stress number) words)
+
+-- Each plan has some worker, and not more than the most.
+pub workers_few : (words : List (List ℕ)) → IfOk (plan_of words) HasFewWorkers
+workers_few [] = tt
+workers_few (word ∷ words) = by_word (bytes_eq word (codes "stress"))
+  where
+    named : IfOk (and_then (command_of word) (λ command. optioned command words)) HasFewWorkers
+    named = then_keeps HasFewWorkers (command_of word) (λ command. optioned command words) (λ command. optioned_few command words)
+
+    by_word : (is_stress : Bool) → IfOk (cond is_stress (stress_of words) (and_then (command_of word) (λ command. optioned command words))) HasFewWorkers
+    by_word true = stress_few words
+    by_word false = named

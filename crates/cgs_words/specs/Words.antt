@@ -11,7 +11,7 @@ use Rattle.cgs_words.specs.declared.options.Limit.{Limit}
 use Rattle.cgs_words.specs.declared.options.Limit.TheVariants.{Workers, Budget, Depth}
 use Rattle.cgs_words.specs.declared.options.Options.{Options}
 use Rattle.cgs_words.specs.declared.plan.Command.{Command}
-use Rattle.cgs_words.specs.declared.plan.Command.TheVariants.{Check, Basis, Solve, Locate}
+use Rattle.cgs_words.specs.declared.plan.Command.TheVariants.{Check, Basis, Solve, Locate, Discover, Stress}
 use Rattle.cgs_words.specs.declared.plan.Plan.{Plan}
 use Rattle.cgs_words.specs.declared.plan.WordFault.{WordFault}
 use Rattle.cgs_words.specs.declared.plan.WordFault.TheVariants as fault
@@ -80,13 +80,15 @@ unfoldable mutual
   value_of options limit [] = Err fault.Value
   value_of options limit (word ∷ words) = and_then (with_value options limit word) (λ next. options_of next words)
 
+-- a command that no number follows
 abbrev pub command_of : List ℕ → Result Command WordFault
 command_of word =
     if bytes_eq word (codes "check") then Ok Check
     else (if bytes_eq word (codes "basis") then Ok Basis
     else (if bytes_eq word (codes "solve") then Ok Solve
     else (if bytes_eq word (codes "locate") then Ok Locate
-    else Err fault.Command)))
+    else (if bytes_eq word (codes "discover") then Ok Discover
+    else Err fault.Command))))
 
 abbrev pub usual_workers : ℕ
 usual_workers = 1
@@ -108,7 +110,19 @@ plan_with command options =
       history = options.history;
     }
 
--- the first word is a command, and the others are its options
+-- a command whose options are these words
+abbrev pub optioned : Command → List (List ℕ) → Result Plan WordFault
+optioned command words = and_then (options_of no_options words) (λ options. Ok (plan_with command options))
+
+abbrev pub most_stress : ℕ
+most_stress = 999999
+
+-- the words after `stress`: its number, and then options
+abbrev pub stress_of : List (List ℕ) → Result Plan WordFault
+stress_of [] = Err fault.Value
+stress_of (word ∷ words) = and_then (number_in 0 most_stress word) (λ number. optioned (Stress number) words)
+
+-- the first word is a command, and the others are its number, if it has one, and its options
 abbrev pub plan_of : List (List ℕ) → Result Plan WordFault
 plan_of [] = Err fault.NoWord
-plan_of (word ∷ words) = and_then (command_of word) (λ command. and_then (options_of no_options words) (λ options. Ok (plan_with command options)))
+plan_of (word ∷ words) = if bytes_eq word (codes "stress") then stress_of words else and_then (command_of word) (λ command. optioned command words)

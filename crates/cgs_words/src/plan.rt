@@ -11,6 +11,10 @@ pub enum Command {
     Solve,
     /// For each of its points the entry of that system is printed in which it lies, and the basis there.
     Locate,
+    /// The comprehensive Gröbner systems that tell where its thesis follows are printed.
+    Discover,
+    /// The problem that a number generates is solved, and the sums of its system are printed.
+    Stress(u32),
 }
 
 /// A command and the limits that it is run within.
@@ -38,6 +42,6 @@ pub enum WordFault {
     Option,
     /// An option was given before. This is tested before its value.
     Repeat,
-    /// The value of an option is missing, is no number or is out of range.
+    /// The value of an option or the number of `stress` is missing, is no number or is out of range.
     Value,
 }

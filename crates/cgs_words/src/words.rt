@@ -1,11 +1,14 @@
 //! A plan is read from the words.
 
 ghost use Rattle.std.specs.Prelude.{◌≡◌, ◌<◌, ◌≤◌, IfOk};
-ghost use Rattle.cgs_words.specs.Words.{plan_of, command_of, plan_with, most_workers};
+ghost use Rattle.cgs_words.specs.Words.{plan_of, command_of, stress_of, optioned, plan_with, most_workers};
 
+use crate::number::read_number;
 use crate::options::{Options, read_options};
 use crate::plan::{Command, Plan, WordFault};
-use cgs_io::WordList;
+use cgs_io::{Word, WordList};
+
+const MOST_STRESS: u64 = 999_999;
 
 const WORKERS: u32 = 1;
 
@@ -22,11 +25,13 @@ pub fn read_words(words: &WordList) -> Result<Plan, WordFault>
     let Some((word, rest)) = words.as_slice().split_first() else {
         return Err(WordFault::NoWord);
     };
-    let command = read_command(word.as_slice())?;
-    let options = read_options(rest)?;
-    Ok(plan(command, options))
+    if word.as_slice() == b"stress".as_slice() {
+        return read_stress(rest);
+    }
+    read_optioned(read_command(word.as_slice())?, rest)
 }
 
+// A command that no number follows.
 fn read_command(word: &[u8]) -> Result<Command, WordFault>
     ensures { result ≡ command_of word.now }
 {
@@ -38,9 +43,30 @@ fn read_command(word: &[u8]) -> Result<Command, WordFault>
         Ok(Command::Solve)
     } else if word == b"locate".as_slice() {
         Ok(Command::Locate)
+    } else if word == b"discover".as_slice() {
+        Ok(Command::Discover)
     } else {
         Err(WordFault::Command)
     }
+}
+
+// The number of `stress`, and then options.
+fn read_stress(words: &[Word]) -> Result<Plan, WordFault>
+    ensures { result ≡ stress_of words.now }
+{
+    let Some((word, rest)) = words.split_first() else {
+        return Err(WordFault::Value);
+    };
+    let number = read_number(word.as_slice(), 0, MOST_STRESS)?;
+    read_optioned(Command::Stress(number as u32), rest)
+}
+
+// A command whose options are these words.
+fn read_optioned(command: Command, words: &[Word]) -> Result<Plan, WordFault>
+    ensures { result ≡ optioned command words.now }
+{
+    let options = read_options(words)?;
+    Ok(plan(command, options))
 }
 
 // The plan with these options, and with the usual values of those that were not given.

@@ -6,12 +6,13 @@ ghost use Rattle.cgs_poly.specs.Polynomial.{ArePolys};
 ghost use Rattle.cgs_problem.specs.Problems.{IsProblem};
 
 use crate::given::{
-    LINE, TWO_PARAMETERS, condition_at, first_point, is_text, poly_at, printed, problem_of,
+    LINE, QUADRATIC, TWO_PARAMETERS, condition_at, first_point, is_text, poly_at, printed,
+    problem_of,
 };
 use cgs_dickson::{coefficient_list, minimal_dickson};
 use cgs_divide::Stop;
 use cgs_entry::{Conditions, add};
-use cgs_point::{specialise, vanishes};
+use cgs_point::{Point, PointFault, specialise, vanishes};
 use cgs_poly::{Poly, PolyList, Ring};
 use cgs_print::basis_text;
 use cgs_problem::{NameList, Problem, Text};
@@ -76,11 +77,12 @@ fn becomes(alloc: Global, problem: &Problem) -> Result<Text, Fail>
     let f = poly_at(problem, 0).ok_or("no polynomial")?;
     let point = first_point(problem).ok_or("no point")?;
     let special = specialise(alloc, &problem.ring, f, point)?;
-    let ring = Ring {
-        parameters: 0,
-        ..problem.ring
-    };
-    printed(alloc, &ring, &problem.names, &special)
+    printed(
+        alloc,
+        &problem.ring.variables_ring(),
+        &problem.names,
+        &special,
+    )
 }
 
 fn holds(problem: &Problem) -> Result<bool, Fail>
@@ -89,6 +91,32 @@ fn holds(problem: &Problem) -> Result<bool, Fail>
     let f = condition_at(problem, 0).ok_or("no condition")?;
     let point = first_point(problem).ok_or("no point")?;
     Ok(vanishes(&problem.ring, f, point))
+}
+
+/// The numbers of a point, and what they are modulo 32003.
+const NUMBERS: [([u64; 3], [u16; 3]); 3] = [
+    ([0, 2, 1], [0, 2, 1]),
+    ([0, 0, 0], [0, 0, 0]),
+    ([32003, 32005, 18446744073709551615], [0, 2, 21708]),
+];
+
+fn are_numbers(point: &Point, numbers: &[u16; 3]) -> bool {
+    let found = point.as_slice();
+    found.len() == 3 && numbers.iter().zip(found).all(|(n, x)| x.number() == *n)
+}
+
+#[test]
+fn numbers(rt: HostRuntime) -> Result<(), Fail> {
+    let problem = problem_of(rt.alloc(), QUADRATIC, "")?;
+    for (values, want) in NUMBERS {
+        let point = Point::new(rt.alloc(), &problem.ring, &values)?;
+        assert!(rt; are_numbers(&point, &want), "at {values:?}");
+    }
+    for values in [[].as_slice(), &[1, 2], &[1, 2, 3, 4]] {
+        let refused = Point::new(rt.alloc(), &problem.ring, values).map(|_| ());
+        assert_eq!(rt; refused, Err(PointFault::Count));
+    }
+    Ok(())
 }
 
 #[test]
@@ -180,18 +208,18 @@ fn lists(rt: HostRuntime) -> Result<(), Fail> {
     Ok(())
 }
 
-/// Polynomials, those of the minimal Dickson basis, and its leading coefficients that are not constant.
+/// Polynomials, those of the minimal Dickson basis, and the leading coefficients of all that are not constant.
 const DICKSON: [(&str, &str, &str); 4] = [
     (
         "poly b*x\npoly a*x\n",
         "basis b*x\nmembers 1\n",
-        "basis b\nmembers 1\n",
+        "basis b\nbasis a\nmembers 2\n",
     ),
-    // the least leading monomial, wherever it stands
+    // the least leading monomial, wherever it stands, and each leading coefficient once
     (
         "poly a*x\npoly b*x\npoly a*x^2\n",
         "basis b*x\nmembers 1\n",
-        "basis b\nmembers 1\n",
+        "basis a\nbasis b\nmembers 2\n",
     ),
     // a constant is no condition, and a leading coefficient is made monic
     ("poly 3*x+a\n", "basis 3*x+a\nmembers 1\n", "members 0\n"),
@@ -209,7 +237,7 @@ fn have_leads(list: &PolyList) -> bool
     list.as_slice().iter().all(|f| f.len() > 0)
 }
 
-// The texts of the minimal Dickson basis of a problem's polynomials and of its leading coefficients.
+// The texts of the minimal Dickson basis of a problem's polynomials and of their leading coefficients.
 fn dickson(alloc: Global, problem: &Problem) -> Result<(Text, Text), Fail>
     requires { IsProblem problem.now }
 {
@@ -217,7 +245,7 @@ fn dickson(alloc: Global, problem: &Problem) -> Result<(Text, Text), Fail>
         return Err("a polynomial is 0".into());
     }
     let kept = minimal_dickson(alloc, &problem.ring, &problem.polys)?;
-    let coefficients = coefficient_list(alloc, &problem.ring, &kept)?;
+    let coefficients = coefficient_list(alloc, &problem.ring, &problem.polys)?;
     let (mut first, mut second) = (Text::new(alloc), Text::new(alloc));
     basis_text(problem, &kept, &mut first)?;
     basis_text(problem, &coefficients, &mut second)?;

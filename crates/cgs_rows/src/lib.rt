@@ -1,6 +1,6 @@
 //! Tests that cross crates: tables of problems as texts, with what a call makes of them.
 //!
-//! It has no call of its own, and stands on the crates up to `cgs_program`. The expected texts, numbers of units and entries are worked out
+//! It has no call of its own, and stands on the crates up to `cgs_print`. The expected texts, numbers of units and entries are worked out
 //! by hand from the definitions. Read first `problem_of` (given.rt), by which all tables are read.
 #![tactic(auto)]
 
@@ -13,6 +13,6 @@ mod deep;
 #[cfg(test)]
 mod given;
 #[cfg(test)]
-mod trees;
+mod made;
 #[cfg(test)]
-mod workers;
+mod trees;

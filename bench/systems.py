@@ -26,6 +26,11 @@ systems = [
     ("singular-cubic-curve", "a b", "x y", "lex", ["y^2-x^3-a*x-b", "3*x^2+a", "2*y"]),
     ("conic-and-parabola", "a b c d e f", "x y", "grevlex", ["a*x^2+b*x*y+c*y-1", "d*x^2+e*y+f"]),
     ("conic-and-line", "a b c d", "x y", "lex", ["a*x^2+b*y^2-1", "c*x+d*y-1"]),
+    # steady states of three species, of which each limits itself and meets another (Lotka, Volterra)
+    ("lotka-volterra", "a b c d e f", "x y z", "grevlex", ["x-a*x^2-b*x*y", "y-c*x*y-d*y^2", "z-e*x*z-f*z^2"]),
+    # five products that vanish, as multipliers and slacks do, beside a system in space
+    ("complementarity", "a b c d e", "p q r s t u v w", "grevlex",
+     ["a*p", "b*q", "c*r", "d*s", "e*t", "u^5+v^5+w^5-1", "u^4*v+v^4*w+w^4*u-2", "u^3*v^2+v^3*w^2+w^3*u^2-3"]),
 ]
 
 

@@ -5,8 +5,9 @@ MOST_SECONDS = 60
 
 
 class Run:
-    """A run on a text: its seconds, greatest resident kilobytes, exit status and output. Status None: it was stopped.
-    A small run shows some 10,000 kilobytes, which the interpreter that starts it takes."""
+    """A run on a text: its seconds, of them those of a processor in the program, greatest resident kilobytes, exit
+    status and output. Status None: it was stopped. A small run shows some 10,000 kilobytes, which the interpreter that
+    starts it takes."""
 
     def __init__(self, program, words, text, most_seconds=MOST_SECONDS, environment={}):
         with tempfile.TemporaryFile() as given, tempfile.TemporaryFile() as printed:
@@ -26,6 +27,7 @@ class Run:
             clock.cancel()
             self.seconds = time.perf_counter() - start
             child.returncode = os.waitstatus_to_exitcode(ended)
+            self.processor_seconds = used.ru_utime
             self.kilobytes = used.ru_maxrss
             self.status = None if stopped.is_set() else child.returncode
             printed.seek(0)

@@ -2,9 +2,11 @@
 //!
 //! Its words are the operation, the number of terms of each polynomial and how often it is done: `add 1000 50`. Of
 //! `divide` the last is the number of units of work. `tree 2 16 1` takes all branches of a tree with two children a branch
-//! and 16 levels below the root, once. The status is 1 where the words say something else or memory is short.
+//! and 16 levels below the root, once. The word `solve` alone solves the problem on standard input by the top call of one
+//! worker, and prints its list. The status is 1 where the words say something else or memory is short.
 #![tactic(auto)]
 
+mod alone;
 mod tree;
 
 ghost use Rattle.std.specs.Prelude.{◌≡◌, ◌≤◌, IfSome, IfOk};
@@ -12,6 +14,7 @@ ghost use Rattle.cgs_poly.specs.Polynomial.{IsRing, IsPoly, places, ArePolys};
 ghost use Rattle.cgs_list.proofs.ListLemmas.{all_push};
 ghost use Rattle.cgs_algebra.specs.Groebner.{AreMonic};
 
+use crate::alone::solve_alone;
 use crate::tree::take_trees;
 use cgs_divide::{Stop, divide};
 use cgs_field::Modulus;
@@ -19,20 +22,29 @@ use cgs_order::Kind;
 use cgs_poly::{Poly, PolyFault, PolyList, Ring, TermList};
 use std::alloc::{AllocError, Global};
 use std::env;
+use std::io::{Read, Write};
 use std::process::ExitCode;
 use std::rt::Env;
 
 fn main(rt: HostRuntime) -> ExitCode {
-    match timed(&rt, rt.alloc()) {
+    match timed(&rt, rt.alloc(), rt.stdin(), rt.stdout()) {
         Some(()) => ExitCode::SUCCESS,
         None => ExitCode::FAILURE,
     }
 }
 
 /// Does what the words ask for.
-fn timed(rt: &(impl Env + AllocGlobal), alloc: Global) -> Option<()> {
+fn timed(
+    rt: &(impl Env + AllocGlobal),
+    alloc: Global,
+    input: impl Read + Drop,
+    output: impl Write + Drop,
+) -> Option<()> {
     let arguments: Vec<String> = env::args(rt).ok()?.collect(alloc).ok()?;
     let word = arguments.get(1)?.as_str();
+    if word == "solve" {
+        return solve_alone(alloc, input, output);
+    }
     let size = number(arguments.get(2)?)?;
     let times = number(arguments.get(3)?)?;
     if word == "tree" {

@@ -1,2 +1,4 @@
 pub mod MonomialLemmas
 pub mod PlaceLemmas
+pub mod MaskLemmas
+pub mod LaneLemmas

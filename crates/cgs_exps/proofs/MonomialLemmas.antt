@@ -149,7 +149,7 @@ divides_both (x ∷ xs) (y ∷ ys) p d e =
 
 -- degrees
 
-degree_first : (x : ℕ) (a : List ℕ) → degree (x ∷ a) ≡ x + degree a
+pub degree_first : (x : ℕ) (a : List ℕ) → degree (x ∷ a) ≡ x + degree a
 degree_first x a = sum_by-cons (λ n. n) x a
 
 -- the degree of a product is the sum of the degrees

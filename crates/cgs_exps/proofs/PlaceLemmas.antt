@@ -1,8 +1,11 @@
 -- The operations place by place.
-use Rattle.std.proofs.Common.{ℕ, zero, suc, ◌≡◌, ◌+◌, ◌-◌, ◌<◌, ◌≤◌, max, true, ◌==◌, ◌||◌, List, [], ◌∷◌, length, drop, get_or, refl, sym, arith}
+use Rattle.std.proofs.Common.{ℕ, zero, suc, ◌≡◌, ◌+◌, ◌-◌, ◌<◌, ◌≤◌, max, Bool, true, nat_le, ◌==◌, ◌&&◌, ◌||◌}
+use Rattle.std.proofs.Common.{List, [], ◌∷◌, ◌++◌, length, take, drop, get_or, refl, sym, ap, ◌∙◌, arith}
+use Rattle.std.proofs.Math.Bool.{and_assoc}
 use Rattle.std.proofs.lemmas.List.{drop_more}
 use Rattle.std.proofs.lemmas.Bool.{and_parts, leb-true}
 use Rattle.std.proofs.lemmas.Bool.Decides.{nat_tests}
+use Rattle.cgs_exps.specs.declared.lanes.TheConstants.{LANES}
 use Rattle.cgs_exps.specs.Monomial.{product, divides, coprime, quotient, lcm}
 
 -- what holds of the exponents at each place holds of the lists
@@ -31,6 +34,47 @@ quotient_places = places (λ x y. x - y) quotient refl (λ x y a b. refl)
 pub product_places : (out a b : List ℕ) → length a ≡ length b → length out ≡ length a
     → ((k : ℕ) → k < length a → get_or out k 0 ≡ get_or a k 0 + get_or b k 0) → out ≡ product a b
 product_places = places (λ x y. x + y) product refl (λ x y a b. refl)
+
+-- what is written of the first lists holds at each of their places
+
+at_place : (f : ℕ → ℕ → ℕ) (op : List ℕ → List ℕ → List ℕ) → ((x y : ℕ) (a b : List ℕ) → op (x ∷ a) (y ∷ b) ≡ f x y ∷ op a b)
+    → (n : ℕ) (a b rest : List ℕ) → length a ≡ length b → n ≤ length a
+    → (k : ℕ) → k < n → get_or (op (take n a) (take n b) ++ rest) k 0 ≡ f (get_or a k 0) (get_or b k 0)
+at_place f op step zero a b rest p q k h = absurd (omega arith)
+at_place f op step (suc n) [] b rest p q k h = absurd (omega arith)
+at_place f op step (suc n) (x ∷ xs) [] rest p q k h = absurd (omega arith)
+at_place f op step (suc n) (x ∷ xs) (y ∷ ys) rest p q zero h = ap (λ c. get_or (c ++ rest) 0 0) (step x y (take n xs) (take n ys))
+at_place f op step (suc n) (x ∷ xs) (y ∷ ys) rest p q (suc k) h =
+    ap (λ c. get_or (c ++ rest) (suc k) 0) (step x y (take n xs) (take n ys)) ∙ at_place f op step n xs ys rest (omega arith) (omega arith) k (omega arith)
+
+module _ (out a b rest : List ℕ) (p : length a ≡ length b) (q : LANES ≤ length a) (k : ℕ) (h : k < LANES) where
+  pub lcm_at : out ≡ lcm (take LANES a) (take LANES b) ++ rest → get_or out k 0 ≡ max (get_or a k 0) (get_or b k 0)
+  lcm_at e = ap (λ c. get_or c k 0) e ∙ at_place max lcm (λ x y a b. refl) LANES a b rest p q k h
+
+  pub quotient_at : out ≡ quotient (take LANES a) (take LANES b) ++ rest → get_or out k 0 ≡ get_or a k 0 - get_or b k 0
+  quotient_at e = ap (λ c. get_or c k 0) e ∙ at_place (λ x y. x - y) quotient (λ x y a b. refl) LANES a b rest p q k h
+
+  pub product_at : out ≡ product (take LANES a) (take LANES b) ++ rest → get_or out k 0 ≡ get_or a k 0 + get_or b k 0
+  product_at e = ap (λ c. get_or c k 0) e ∙ at_place (λ x y. x + y) product (λ x y a b. refl) LANES a b rest p q k h
+
+-- a test of the first places and one of the places after them
+
+parts : (t : ℕ → ℕ → Bool) (op : List ℕ → List ℕ → Bool) → op [] [] ≡ true → ((x y : ℕ) (a b : List ℕ) → op (x ∷ a) (y ∷ b) ≡ (t x y && op a b))
+    → (n : ℕ) (a b : List ℕ) → length a ≡ length b → op a b ≡ (op (take n a) (take n b) && op (drop n a) (drop n b))
+parts t op none step zero a b p = rw none refl
+parts t op none step (suc n) [] [] p = rw none refl
+parts t op none step (suc n) [] (y ∷ ys) p = absurd (omega arith)
+parts t op none step (suc n) (x ∷ xs) [] p = absurd (omega arith)
+parts t op none step (suc n) (x ∷ xs) (y ∷ ys) p =
+    rw (step x y xs ys, step x y (take n xs) (take n ys))
+    (ap (λ s. t x y && s) (parts t op none step n xs ys (omega arith)) ∙ sym (and_assoc (t x y) (op (take n xs) (take n ys)) (op (drop n xs) (drop n ys))))
+
+module _ (a b : List ℕ) (p : length a ≡ length b) where
+  pub divides_parts : divides a b ≡ (divides (take LANES a) (take LANES b) && divides (drop LANES a) (drop LANES b))
+  divides_parts = parts nat_le divides refl (λ x y a b. refl) LANES a b p
+
+  pub coprime_parts : coprime a b ≡ (coprime (take LANES a) (take LANES b) && coprime (drop LANES a) (drop LANES b))
+  coprime_parts = parts (λ x y. x == 0 || y == 0) coprime refl (λ x y a b. refl) LANES a b p
 
 -- tests of the places from one on
 

@@ -1,2 +1,3 @@
 pub mod Monomial
+pub mod Mask
 pub mod Bounds

@@ -1,7 +1,12 @@
 //! The operations on monomials, place by place and without memory (Cox, Little, O'Shea, chapter 2, sections 2 and 6).
 
-ghost use Rattle.std.specs.Prelude.{◌≡◌, ◌+◌, ◌<◌, ◌≤◌, ◌↔◌, IsErr, IsTrue, length, OnOk, OnErr};
+ghost use Rattle.std.specs.Prelude.{◌≡◌, ◌+◌, ◌^◌, ◌<◌, ◌≤◌, ◌↔◌, IsErr, IsTrue, length, OnOk, OnErr};
 ghost use Rattle.cgs_exps.specs.Monomial as monomial;
+
+use crate::lanes::{
+    LANES, coprime_in_lanes, degree_in_lanes, divides_in_lanes, lanes, lcm_in_lanes,
+    product_in_lanes, quotient_in_lanes, store,
+};
 
 /// The greatest number of places of a monomial.
 pub const MAX_PLACES: usize = 17;
@@ -27,8 +32,15 @@ pub fn divides(a: &[u16], b: &[u16]) -> bool
     requires places { length a.now ≤ MAX_PLACES }
     ensures { result ≡ monomial.divides a.now b.now }
 {
-    for (i, &x) in a.iter().enumerate() {
-        if x > b[i] {
+    let mut from = 0;
+    if a.len() >= LANES {
+        if !divides_in_lanes(lanes(a), lanes(b)) {
+            return false;
+        }
+        from = LANES;
+    }
+    for i in from..a.len() {
+        if a[i] > b[i] {
             return false;
         }
     }
@@ -41,8 +53,15 @@ pub fn coprime(a: &[u16], b: &[u16]) -> bool
     requires places { length a.now ≤ MAX_PLACES }
     ensures { result ≡ monomial.coprime a.now b.now }
 {
-    for (i, &x) in a.iter().enumerate() {
-        if x != 0 && b[i] != 0 {
+    let mut from = 0;
+    if a.len() >= LANES {
+        if !coprime_in_lanes(lanes(a), lanes(b)) {
+            return false;
+        }
+        from = LANES;
+    }
+    for i in from..a.len() {
+        if a[i] != 0 && b[i] != 0 {
             return false;
         }
     }
@@ -56,8 +75,13 @@ pub fn lcm_into(a: &[u16], b: &[u16], out: &mut [u16])
     requires places { length a.now ≤ MAX_PLACES }
     ensures { out.new ≡ monomial.lcm a.now b.now }
 {
-    for (i, z) in out.iter_mut().enumerate() {
-        *z = a[i].max(b[i]);
+    let mut from = 0;
+    if a.len() >= LANES {
+        store(lcm_in_lanes(lanes(a), lanes(b)), out);
+        from = LANES;
+    }
+    for i in from..a.len() {
+        out[i] = a[i].max(b[i]);
     }
 }
 
@@ -69,8 +93,13 @@ pub fn quotient_into(a: &[u16], b: &[u16], out: &mut [u16])
     requires divisor { IsTrue (monomial.divides b.now a.now) }
     ensures { out.new ≡ monomial.quotient a.now b.now }
 {
-    for (i, z) in out.iter_mut().enumerate() {
-        *z = a[i] - b[i];
+    let mut from = 0;
+    if a.len() >= LANES {
+        store(quotient_in_lanes(lanes(a), lanes(b)), out);
+        from = LANES;
+    }
+    for i in from..a.len() {
+        out[i] = a[i] - b[i];
     }
 }
 
@@ -85,11 +114,29 @@ pub fn product_into(a: &[u16], b: &[u16], out: &mut [u16]) -> Result<(), DegreeF
     ensures too_great { IsErr result ↔ (MAX_DEGREE < monomial.degree a.now + monomial.degree b.now) }
     ensures err { OnErr result (out.new ≡ out.old) }
 {
-    if degree(a) + degree(b) > MAX_DEGREE {
+    if degree_of_both(a, b) as u32 > MAX_DEGREE {
         return Err(DegreeFault);
     }
     add_into(a, b, out);
     Ok(())
+}
+
+// The sum of the degrees of two monomials, in one pass.
+fn degree_of_both(a: &[u16], b: &[u16]) -> u16
+    requires same_places { length a.now ≡ length b.now }
+    requires small { monomial.degree a.now + monomial.degree b.now < 2 ^ 16 }
+    ensures { result ≡ monomial.degree a.now + monomial.degree b.now }
+{
+    let mut total = 0;
+    let mut from = 0;
+    if a.len() >= LANES {
+        total = degree_in_lanes(lanes(a), lanes(b));
+        from = LANES;
+    }
+    for i in from..a.len() {
+        total += a[i] + b[i];
+    }
+    total
 }
 
 // Writes the sum at each place into `out`.
@@ -99,7 +146,12 @@ fn add_into(a: &[u16], b: &[u16], out: &mut [u16])
     requires small { monomial.degree a.now + monomial.degree b.now ≤ MAX_DEGREE }
     ensures { out.new ≡ monomial.product a.now b.now }
 {
-    for (i, z) in out.iter_mut().enumerate() {
-        *z = a[i] + b[i];
+    let mut from = 0;
+    if a.len() >= LANES {
+        store(product_in_lanes(lanes(a), lanes(b)), out);
+        from = LANES;
+    }
+    for i in from..a.len() {
+        out[i] = a[i] + b[i];
     }
 }

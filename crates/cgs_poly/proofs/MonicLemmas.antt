@@ -6,7 +6,7 @@ use Rattle.cgs_field.specs.Inverse.{inverse}
 use Rattle.cgs_field.proofs.ModularLemmas.{mod_mul}
 use Rattle.cgs_field.proofs.InverseLemmas.{inverse_times, inverse_less, inverse_positive}
 use Rattle.cgs_field.proofs.PrimeLemmas.{modulus_field}
-use Rattle.cgs_poly.specs.declared.ring.Ring.{Ring}
+use Rattle.cgs_poly.specs.Ring.{Ring}
 use Rattle.cgs_poly.specs.Polynomial.{Term, total, IsRing, IsCanonical, IsPoly, canonical}
 use Rattle.cgs_poly.specs.Product.{scaled, leading_monomial, leading_coefficient}
 use Rattle.cgs_poly.specs.Merge.{changed}
@@ -14,7 +14,8 @@ use Rattle.cgs_poly.specs.Monic.{monic_of}
 use Rattle.cgs_poly.proofs.SumLemmas.{Alike, total_scaled}
 use Rattle.cgs_poly.proofs.CanonicalLemmas.{is_canonical, canonical_alike, canonical_of_ring}
 use Rattle.cgs_poly.proofs.ProductLemmas.{scaled_of_ring}
-use Rattle.cgs_poly.proofs.ChangedLemmas.{canonical_scaled, scaled_poly}
+use Rattle.cgs_poly.proofs.ChangedLemmas.{canonical_scaled}
+use Rattle.cgs_poly.proofs.ArithmeticLemmas.{scaled_poly}
 use Rattle.cgs_poly.proofs.RingLemmas.{ring_positive}
 
 -- monic polynomials
@@ -60,7 +61,7 @@ module _ (ring : Ring) (r : IsRing ring) where
   unfolding monic_of
   monic_terms x f h =
       let c : ℕ = inverse ring.modulus x.coefficient in
-      canonical_scaled ring c (x ∷ f) r (inverse_positive ring.modulus x.coefficient field h.0 h.1) (inverse_less ring.modulus x.coefficient pos) h
+      canonical_scaled ring c (x ∷ f) r.modulus (inverse_positive ring.modulus x.coefficient field h.0 h.1) (inverse_less ring.modulus x.coefficient pos) h
 
   pub monic_lead : (f : List Term) → IsCanonical ring f → leading_monomial (monic_of ring f) ≡ leading_monomial f
   unfolding monic_of

@@ -4,7 +4,7 @@ use Rattle.std.proofs.Math.Nat.{mod-eq_of_lt}
 use Rattle.std.proofs.lemmas.List.{length-replicate, take-replicate}
 use Rattle.cgs_field.proofs.PrimeLemmas.{modulus_field}
 use Rattle.cgs_exps.specs.Monomial.{degree}
-use Rattle.cgs_poly.specs.declared.ring.Ring.{Ring}
+use Rattle.cgs_poly.specs.Ring.{Ring}
 use Rattle.cgs_poly.specs.Polynomial.{term, places, one, IsRing, IsCanonical, IsPoly}
 
 pub one_canonical : (ring : Ring) → 1 < ring.modulus → IsCanonical ring (one ring)

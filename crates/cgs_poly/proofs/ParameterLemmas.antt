@@ -14,9 +14,9 @@ use Rattle.cgs_exps.specs.Monomial.{degree, product}
 use Rattle.cgs_exps.proofs.MonomialLemmas.{product_comm, one_product, degree_product}
 use Rattle.cgs_order.specs.TermOrder.{compared}
 use Rattle.cgs_order.proofs.OrderLemmas.{cmp_equal, cmp_self}
-use Rattle.cgs_poly.specs.declared.ring.Ring.{Ring}
+use Rattle.cgs_poly.specs.Ring.{Ring}
 use Rattle.cgs_poly.specs.Polynomial.{Term, term, places, order_of, total, indicator, coefficient, IsOfRing, StartsBelow, IsCanonical, HasLowDegrees, IsPoly}
-use Rattle.cgs_poly.specs.declared.draft.Draft.{Draft}
+use Rattle.cgs_terms.specs.declared.draft.Draft.{Draft}
 use Rattle.cgs_poly.specs.Draft.{terms_in, IsFlat, Appended}
 use Rattle.cgs_poly.specs.Product.{leading_monomial}
 use Rattle.cgs_poly.specs.Parameters.{lead_x, part_at, without_variables, strip, lc_x, HasNoVariables, has_no_variables}

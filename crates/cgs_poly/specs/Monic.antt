@@ -1,7 +1,7 @@
 -- Monic polynomials: the multiple by a number whose leading coefficient is 1.
 use Rattle.std.specs.Prelude.{List}
 use Rattle.cgs_field.specs.Inverse.{inverse}
-use Rattle.cgs_poly.specs.declared.ring.Ring.{Ring}
+use Rattle.cgs_poly.specs.Ring.{Ring}
 use Rattle.cgs_poly.specs.Polynomial.{Term, canonical}
 use Rattle.cgs_poly.specs.Product.{scaled, leading_coefficient}
 

@@ -2,7 +2,8 @@
 use Rattle.std.specs.Prelude.{ℕ, ◌≡◌, ◌*◌, ◌^◌, ◌%◌, Bool, true, ◌&&◌, cond, List, [], ◌∷◌, ◌++◌, take, drop, replicate}
 use Rattle.std.specs.Ordering.{nat_cmp, is_eq}
 use Rattle.std.specs.Cmp.Lexicographic.{slice_cmp}
-use Rattle.cgs_poly.specs.declared.ring.Ring.{Ring}
+use Rattle.cgs_poly.specs.Ring.{Ring}
+pub use Rattle.cgs_terms.specs.Polynomial.{variables_ring}
 use Rattle.cgs_poly.specs.Polynomial.{Term, term, total, canonical, IsPoly}
 use Rattle.cgs_poly.specs.Product.{leading_monomial}
 
@@ -52,10 +53,6 @@ power_at (e ∷ es) (x ∷ a) = x ^ e * power_at es a
 -- the value at a point of a polynomial without variables
 abbrev pub value_at : Ring → List ℕ → List Term → ℕ
 value_at ring a f = total (λ m. power_at (drop ring.variables m) a) f % ring.modulus
-
--- the ring of the variables alone
-abbrev pub variables_ring : Ring → Ring
-variables_ring ring = record { modulus = ring.modulus; variables = ring.variables; parameters = 0; kind = ring.kind }
 
 -- each term with its parameters replaced by a point's numbers
 abbrev pub specialised_terms : Ring → List ℕ → List Term → List Term

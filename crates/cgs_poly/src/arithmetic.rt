@@ -7,12 +7,11 @@ ghost use Rattle.cgs_poly.specs.Monic.{monic_of};
 ghost use Rattle.cgs_poly.specs.Merge.{EachTerm};
 
 use crate::fault::PolyFault;
-use crate::merge::{merge, multiplied};
-use crate::multiple::{Factor, Once, Scalar};
+use crate::merge::{merged, multiplied};
 use crate::poly::Poly;
-use crate::ring::Ring;
-use cgs_exps::{MAX_DEGREE, degree};
+use cgs_exps::degree;
 use cgs_field::Elem;
+use cgs_terms::{Factor, Once, Ring, Scalar};
 use std::alloc::{AllocError, Global};
 
 impl Poly {
@@ -25,7 +24,7 @@ impl Poly {
         ensures poly { IfOk result (λ h. IsPoly ring.now h) }
         ensures coefficients { IfOk result (λ h. (m : List ℕ) → coefficient ring.now.modulus h m ≡ (coefficient ring.now.modulus f.now m + coefficient ring.now.modulus g.now m) % ring.now.modulus) }
     {
-        let sum = merge(alloc, ring, f, g, &Once)?;
+        let sum = merged(alloc, ring, f, g, &Once)?;
         Ok(sum)
     }
 
@@ -91,7 +90,7 @@ impl Poly {
             coefficient: ring.modulus.neg(c),
             exponents: m,
         };
-        let difference = merge(alloc, ring, f, g, &factor)?;
+        let difference = merged(alloc, ring, f, g, &factor)?;
         Ok(difference)
     }
 
@@ -122,10 +121,7 @@ impl Poly {
         requires { EachTerm (λ c m. length m ≤ 17) self.now }
         ensures { IsTrue result ↔ ((0 < length self.now) × (greatest_degree < further + top_degree self.now)) }
     {
-        if self.len() == 0 {
-            return false;
-        }
-        u64::from(further) + u64::from(self.top_degree()) > u64::from(MAX_DEGREE)
+        self.terms.flat().exceeds(further)
     }
 
     // The greatest degree of a monomial.
@@ -133,11 +129,7 @@ impl Poly {
         requires { EachTerm (λ c m. length m ≤ 17) self.now }
         ensures { result ≡ top_degree self.now }
     {
-        let mut top = 0;
-        for i in 0..self.len() {
-            top = top.max(degree(self.term(i).exponents));
-        }
-        top
+        self.terms.flat().top_degree()
     }
 }
 

@@ -4,11 +4,9 @@ ghost use Rattle.std.specs.Prelude.{ℕ, ◌≡◌, ◌<◌, ◌≤◌, ◌-◌,
 ghost use Rattle.cgs_poly.specs.Polynomial.{places, StartsBelow};
 ghost use Rattle.cgs_poly.specs.Draft.{HaveLength};
 
-use crate::draft::Draft;
-use crate::flat::part;
 use crate::poly::Poly;
-use crate::ring::Ring;
 use cgs_order::compare;
+use cgs_terms::{Draft, Ring};
 use std::alloc::{AllocError, Global};
 use std::cmp::Ordering;
 
@@ -51,12 +49,15 @@ impl Poly {
         requires within { to ≤ length g.now }
         ensures { IfOk result (λ h. h ≡ drop at f.now ++ take (to - from) (drop from g.now)) }
     {
-        let first = part(&f.exponents, f.places, at, f.len());
-        let second = part(&g.exponents, g.places, from, to);
-        let terms = f.len() - at + (to - from);
-        let mut draft = Draft::with_room(alloc, places, terms, first.len() + second.len())?;
-        draft.extend(f, at, f.len())?;
-        draft.extend(g, from, to)?;
-        Ok(draft.finish())
+        let first = f.terms.flat();
+        let second = g.terms.flat();
+        let behind = first.between(at, first.len());
+        let further = second.between(from, to);
+        let mut draft = Draft::with_room_for(alloc, places, &behind, &further)?;
+        draft.extend(&first, at, first.len())?;
+        draft.extend(&second, from, to)?;
+        Ok(Poly {
+            terms: draft.finish(),
+        })
     }
 }

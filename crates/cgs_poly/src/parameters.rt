@@ -4,10 +4,9 @@ ghost use Rattle.std.specs.Prelude.{ℕ, List, [], ◌≡◌, ◌↔◌, ◌++�
 ghost use Rattle.cgs_poly.specs.Polynomial.{IsRing, IsPoly, coefficient};
 ghost use Rattle.cgs_poly.specs.Parameters.{lead_x, lc_x, HasNoVariables, has_no_variables};
 
-use crate::draft::Draft;
 use crate::poly::Poly;
-use crate::ring::Ring;
 use cgs_exps::MAX_PLACES;
+use cgs_terms::{Draft, Ring};
 use std::alloc::{AllocError, Global};
 
 impl Poly {
@@ -60,7 +59,9 @@ impl Poly {
                 part.push_parts(term.coefficient, &zeros[..variables], rest)?;
             }
         }
-        Ok(part.finish())
+        Ok(Poly {
+            terms: part.finish(),
+        })
     }
 }
 

@@ -6,44 +6,30 @@ ghost use Rattle.cgs_poly.specs.Polynomial.{IsRing, IsPoly, places, term, one, c
 ghost use Rattle.cgs_poly.specs.Draft.{HaveLength};
 ghost use Rattle.cgs_poly.specs.Flat.{coefficients_of, exponents_of};
 
-use crate::draft::Draft;
 use crate::fault::PolyFault;
-use crate::flat::part;
-use crate::ring::Ring;
 use cgs_exps::{MAX_DEGREE, MAX_PLACES, degree as monomial_degree};
 use cgs_field::Elem;
 use cgs_list::{Duplicate, ItemList};
+use cgs_terms::{Draft, Ring, Term, TermList};
 use std::alloc::{AllocError, Global};
 use std::marker::Model;
 
 /// A list of polynomials.
 pub type PolyList = ItemList<Poly>;
 
-/// A term of a polynomial: its coefficient, and the exponents of its monomial, the variables' before the parameters'.
-#[derive(Clone, Copy, Debug)]
-pub struct Term<'a> {
-    pub coefficient: Elem,
-    pub exponents: &'a [u16],
-}
-
 /// A polynomial, which contracts see as its list of terms, the greatest monomial first.
 #[derive(Debug, Drop)]
 pub struct Poly {
-    pub(crate) coefficients: Vec<Elem>,
-    pub(crate) exponents: Vec<u16>,
-    pub(crate) places: usize,
+    pub(crate) terms: TermList,
 }
 
 impl Model for Poly {
-    ghost use Rattle.std.specs.Prelude.{◌≡◌, ◌*◌, List, length};
+    ghost use Rattle.std.specs.Prelude.{List};
     ghost use Rattle.cgs_poly.specs.Polynomial.{Term};
-    ghost use Rattle.cgs_poly.specs.Flat.{terms_of};
 
     ghost Value = { List Term };
 
-    ghost view = { λ f. terms_of f.places f.coefficients.items f.exponents.items };
-
-    ghost invariant = { λ f. length f.exponents.items ≡ length f.coefficients.items * f.places };
+    ghost view = { λ f. f.terms };
 }
 
 impl Poly {
@@ -52,9 +38,7 @@ impl Poly {
         ensures { result ≡ [] }
     {
         Poly {
-            coefficients: Vec::new(alloc),
-            exponents: Vec::new(alloc),
-            places: 0,
+            terms: TermList::new(alloc),
         }
     }
 
@@ -68,7 +52,9 @@ impl Poly {
         let places = ring.places();
         let mut draft = Draft::with_room(alloc, places, 1, places)?;
         draft.push(ring.modulus.of_u64(1), &zeros[..places])?;
-        Ok(draft.finish())
+        Ok(Poly {
+            terms: draft.finish(),
+        })
     }
 
     /// The polynomial c times m; 0 where c is 0. It errs where the degree of m is above 32767, before memory is taken.
@@ -91,7 +77,7 @@ impl Poly {
     pub fn len(&self) -> usize
         ensures { result ≡ length self.now }
     {
-        self.coefficients.len()
+        self.terms.len()
     }
 
     /// The term at a place, counted from 0: the greatest monomial stands first.
@@ -99,10 +85,7 @@ impl Poly {
         requires { i < length self.now }
         ensures { slice_get self.now i ≡ Some (record { coefficient = result.coefficient; exponents = result.exponents.now }) }
     {
-        Term {
-            coefficient: self.coefficients[i],
-            exponents: part(&self.exponents, self.places, i, i + 1),
-        }
+        self.terms.term(i)
     }
 
     /// The term with the greatest monomial.
@@ -120,14 +103,14 @@ impl Poly {
     pub fn coefficients(&self) -> &[Elem]
         ensures { result.now ≡ coefficients_of self.now }
     {
-        self.coefficients.as_slice()
+        self.terms.coefficients()
     }
 
     /// The exponents of all terms, one monomial after the other.
     pub fn exponents(&self) -> &[u16]
         ensures { result.now ≡ exponents_of self.now }
     {
-        self.exponents.as_slice()
+        self.terms.exponents()
     }
 
     /// Puts a term at the end. An error leaves the polynomial as it was. The caller keeps the order of the terms.
@@ -136,29 +119,21 @@ impl Poly {
         ensures ok { OnOk result (self.new ≡ self.old ++ term c m.now ∷ []) }
         ensures err { OnErr result (self.new ≡ self.old) }
     {
-        self.coefficients.reserve(1)?;
-        self.exponents.extend_from_slice(m)?;
-        self.coefficients.push(c)?;
-        self.places = m.len();
-        Ok(())
+        self.terms.push(c, m)
     }
 
-    /// Whether two polynomials are equal. Exponents are compared first: different members of a list mostly differ in the lead.
+    /// Whether two polynomials are equal.
     pub fn same(&self, other: &Poly) -> bool
         ensures { IsTrue result ↔ (self.now ≡ other.now) }
     {
-        self.exponents == other.exponents && self.coefficients == other.coefficients
+        self.terms.same(&other.terms)
     }
 }
 
 impl Duplicate for Poly {
     fn copy(&self) -> Result<Poly, AllocError> {
-        let coefficients = self.coefficients.clone()?;
-        let exponents = self.exponents.clone()?;
         Ok(Poly {
-            coefficients,
-            exponents,
-            places: self.places,
+            terms: self.terms.copy()?,
         })
     }
 }
@@ -177,5 +152,7 @@ pub(crate) fn single(alloc: Global, ring: &Ring, c: Elem, m: &[u16]) -> Result<P
     }
     let mut draft = Draft::with_room(alloc, m.len(), 1, m.len())?;
     draft.push(c, m)?;
-    Ok(draft.finish())
+    Ok(Poly {
+        terms: draft.finish(),
+    })
 }

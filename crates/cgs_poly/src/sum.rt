@@ -1,51 +1,12 @@
 //! The sum of terms that come in any order.
 
-ghost use Rattle.std.specs.Prelude.{ℕ, List, [], ◌≡◌, ◌-◌, ◌∷◌, ◌++◌, ◌≤◌, length, take, drop, IfOk, OnOk, OnErr};
+ghost use Rattle.std.specs.Prelude.{ℕ, List, ◌≡◌, ◌-◌, ◌≤◌, length, take, drop, IfOk};
 ghost use Rattle.std.specs.List.{AllByRecursion};
 ghost use Rattle.cgs_poly.specs.Polynomial.{IsRing, IsPoly, IsTerm, term, canonical, coefficient};
-ghost use Rattle.cgs_poly.specs.Draft.{HaveLength};
 
 use crate::poly::{Poly, single};
-use crate::ring::Ring;
-use cgs_field::Elem;
+use cgs_terms::{Ring, TermList};
 use std::alloc::{AllocError, Global};
-use std::marker::Model;
-
-/// Terms in any order, also several of one monomial.
-#[derive(Debug, Drop)]
-pub struct TermList {
-    // Kept as the terms of a polynomial are, without their order.
-    terms: Poly,
-}
-
-impl Model for TermList {
-    ghost use Rattle.std.specs.Prelude.{List};
-    ghost use Rattle.cgs_poly.specs.Polynomial.{Term};
-
-    ghost Value = { List Term };
-
-    ghost view = { λ list. list.terms };
-}
-
-impl TermList {
-    /// No terms.
-    pub fn new(alloc: Global) -> TermList
-        ensures { result ≡ [] }
-    {
-        TermList {
-            terms: Poly::zero(alloc),
-        }
-    }
-
-    /// Puts a term at the end. An error leaves the terms as they were.
-    pub fn push(&mut self, c: Elem, m: &[u16]) -> Result<(), AllocError>
-        requires places { HaveLength (length m.now) self.old }
-        ensures ok { OnOk result (self.new ≡ self.old ++ term c m.now ∷ []) }
-        ensures err { OnErr result (self.new ≡ self.old) }
-    {
-        self.terms.push(c, m)
-    }
-}
 
 impl Poly {
     /// The sum of terms in any order.
@@ -56,7 +17,7 @@ impl Poly {
         ensures poly { IfOk result (λ f. IsPoly ring.now f) }
         ensures coefficients { IfOk result (λ f. (m : List ℕ) → coefficient ring.now.modulus f m ≡ coefficient ring.now.modulus terms.now m) }
     {
-        let sum = sum_of(alloc, ring, &terms.terms, 0, terms.terms.len())?;
+        let sum = sum_of(alloc, ring, terms, 0, terms.len())?;
         Ok(sum)
     }
 }
@@ -65,7 +26,7 @@ impl Poly {
 fn sum_of(
     alloc: Global,
     ring: &Ring,
-    terms: &Poly,
+    terms: &TermList,
     from: usize,
     to: usize,
 ) -> Result<Poly, AllocError>

@@ -59,6 +59,23 @@ fn has_terms(f: &Poly, terms: Terms<'_>) -> bool {
     true
 }
 
+// Whether the sum of two polynomials has these terms, and is another polynomial than the first.
+fn adds(
+    alloc: Global,
+    ring: &Ring,
+    first: Terms<'_>,
+    second: Terms<'_>,
+    want: Terms<'_>,
+) -> Result<bool, PolyFault>
+    requires valid { IsRing ring.now }
+    requires two { places ring.now ≡ 2 }
+{
+    let f = poly(alloc, ring, first)?;
+    let g = poly(alloc, ring, second)?;
+    let sum = Poly::add(alloc, ring, &f, &g)?;
+    Ok(has_terms(&sum, want) && !f.same(&sum))
+}
+
 #[test]
 fn sums(rt: HostRuntime) -> Result<(), Fail> {
     let ring = ring(2).ok_or("no ring")?;
@@ -77,12 +94,7 @@ fn sums(rt: HostRuntime) -> Result<(), Fail> {
         (&[(1, [32767, 0])], &[(6, [32767, 0])], &[]),
     ];
     for (first, second, want) in rows {
-        let f = poly(rt.alloc(), &ring, first)?;
-        let g = poly(rt.alloc(), &ring, second)?;
-        let sum = Poly::add(rt.alloc(), &ring, &f, &g)?;
-        assert!(rt; has_terms(&sum, want));
-        assert_eq!(rt; f.same(&sum), false);
-        assert!(rt; sum.same(&poly(rt.alloc(), &ring, want)?));
+        assert!(rt; adds(rt.alloc(), &ring, first, second, want)?);
     }
     Ok(())
 }
@@ -100,40 +112,99 @@ fn degrees(rt: HostRuntime) -> Result<(), Fail> {
     Ok(())
 }
 
+// Whether the product of two polynomials has these terms.
+fn multiplies(
+    alloc: Global,
+    ring: &Ring,
+    first: Terms<'_>,
+    second: Terms<'_>,
+    want: Terms<'_>,
+) -> Result<bool, PolyFault>
+    requires valid { IsRing ring.now }
+    requires two { places ring.now ≡ 2 }
+{
+    let f = poly(alloc, ring, first)?;
+    let g = poly(alloc, ring, second)?;
+    let product = Poly::product(alloc, ring, &f, &g)?;
+    Ok(has_terms(&product, want))
+}
+
+// Whether the first polynomial less a monomial times the second has these terms.
+fn subtracts(
+    alloc: Global,
+    ring: &Ring,
+    first: Terms<'_>,
+    m: &[u16; 2],
+    second: Terms<'_>,
+    want: Terms<'_>,
+) -> Result<bool, PolyFault>
+    requires valid { IsRing ring.now }
+    requires two { places ring.now ≡ 2 }
+{
+    let one = ring.modulus.of_u64(1);
+    if one.number() == 0 || degree(m) > MAX_DEGREE {
+        return Ok(false);
+    }
+    let f = poly(alloc, ring, first)?;
+    let g = poly(alloc, ring, second)?;
+    let difference = Poly::sub_multiple(alloc, ring, &f, one, m, &g)?;
+    Ok(has_terms(&difference, want))
+}
+
 #[test]
 fn products(rt: HostRuntime) -> Result<(), Fail> {
     let ring = ring(2).ok_or("no ring")?;
-    let one = ring.modulus.of_u64(1);
-    assert!(rt; one.number() > 0);
-    let f = poly(rt.alloc(), &ring, &[(1, [1, 0]), (1, [0, 0])])?;
-    let g = poly(rt.alloc(), &ring, &[(1, [1, 0]), (6, [0, 0])])?;
-    let product = Poly::product(rt.alloc(), &ring, &f, &g)?;
-    assert!(rt; has_terms(&product, &[(1, [2, 0]), (6, [0, 0])]));
-    let square = poly(rt.alloc(), &ring, &[(1, [2, 0])])?;
-    let difference = Poly::sub_multiple(rt.alloc(), &ring, &square, one, &[1, 0], &g)?;
-    assert!(rt; has_terms(&difference, &[(1, [1, 0])]));
-    let most = poly(rt.alloc(), &ring, &[(1, [32767, 0])])?;
-    let refused = Poly::product(rt.alloc(), &ring, &most, &f);
-    assert_eq!(rt; refused.map(|_| ()), Err(PolyFault::Degree));
-    let refused = Poly::sub_multiple(rt.alloc(), &ring, &f, one, &[0, 1], &most);
-    assert_eq!(rt; refused.map(|_| ()), Err(PolyFault::Degree));
+    let f: Terms<'_> = &[(1, [1, 0]), (1, [0, 0])];
+    let g: Terms<'_> = &[(1, [1, 0]), (6, [0, 0])];
+    let square: Terms<'_> = &[(1, [2, 0])];
+    let most: Terms<'_> = &[(1, [32767, 0])];
+    assert!(rt; multiplies(rt.alloc(), &ring, f, g, &[(1, [2, 0]), (6, [0, 0])])?);
+    assert_eq!(rt;
+        multiplies(rt.alloc(), &ring, most, f, &[]),
+        Err(PolyFault::Degree)
+    );
+    assert!(rt; subtracts(rt.alloc(), &ring, square, &[1, 0], g, &[(1, [1, 0])])?);
+    assert_eq!(rt;
+        subtracts(rt.alloc(), &ring, f, &[0, 1], most, &[]),
+        Err(PolyFault::Degree)
+    );
     Ok(())
+}
+
+// Whether a polynomial has these terms where it is made monic, and comes back where that is scaled.
+fn is_monic_multiple(
+    alloc: Global,
+    ring: &Ring,
+    terms: Terms<'_>,
+    want: Terms<'_>,
+) -> Result<bool, PolyFault>
+    requires valid { IsRing ring.now }
+    requires two { places ring.now ≡ 2 }
+{
+    let f = poly(alloc, ring, terms)?;
+    let monic = Poly::monic(alloc, ring, &f)?;
+    let back = Poly::scale(alloc, ring, ring.modulus.of_u64(3), &monic)?;
+    Ok(has_terms(&monic, want) && back.same(&f))
 }
 
 #[test]
 fn multiples(rt: HostRuntime) -> Result<(), Fail> {
     let ring = ring(2).ok_or("no ring")?;
-    let f = poly(rt.alloc(), &ring, &[(3, [1, 0]), (6, [0, 0])])?;
-    let monic = Poly::monic(rt.alloc(), &ring, &f)?;
-    assert!(rt; has_terms(&monic, &[(1, [1, 0]), (2, [0, 0])]));
-    let back = Poly::scale(rt.alloc(), &ring, ring.modulus.of_u64(3), &monic)?;
-    assert!(rt; back.same(&f));
-    assert!(rt; f.copy()?.same(&f));
+    let f: Terms<'_> = &[(3, [1, 0]), (6, [0, 0])];
+    assert!(rt; is_monic_multiple(rt.alloc(), &ring, f, &[(1, [1, 0]), (2, [0, 0])])?);
+    assert!(rt; is_monic_multiple(rt.alloc(), &ring, &[], &[])?);
+    Ok(())
+}
+
+#[test]
+fn pushed(rt: HostRuntime) -> Result<(), Fail> {
+    let ring = ring(2).ok_or("no ring")?;
     let mut pushed = Poly::zero(rt.alloc());
+    assert!(rt; pushed.lead().is_none());
     pushed.push(ring.modulus.of_u64(3), &[1, 0])?;
     assert!(rt; has_terms(&pushed, &[(3, [1, 0])]));
-    let zero = Poly::monic(rt.alloc(), &ring, &Poly::zero(rt.alloc()))?;
-    assert_eq!(rt; (zero.len(), zero.lead().is_none()), (0, true));
+    let copy = pushed.copy()?;
+    assert!(rt; copy.same(&pushed));
     Ok(())
 }
 

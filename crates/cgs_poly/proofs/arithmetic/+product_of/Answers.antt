@@ -5,7 +5,8 @@ use Rattle.cgs_poly.specs.Draft.{HaveLength}
 use Rattle.cgs_poly.proofs.RingLemmas.{ring_positive, places_few}
 use Rattle.cgs_poly.proofs.PlaceLemmas.{canonical_at, canonical_length, top_at, take_one}
 use Rattle.cgs_poly.proofs.ProductLemmas.{can_multiply, part_of_ring, part_poly, halves, product_halves}
-use Rattle.cgs_poly.proofs.ChangedLemmas.{multiple_canonical, product_one}
+use Rattle.cgs_poly.proofs.ChangedLemmas.{multiple_canonical}
+use Rattle.cgs_poly.proofs.ArithmeticLemmas.{product_one}
 use Rattle.cgs_poly.proofs.CanonicalLemmas.{canonical_of_ring}
 use Rattle.cgs_poly.proofs.arithmetic.+product_of.Goals as goal
 
@@ -25,7 +26,7 @@ multiplied-requires-clause-multiple t c =
     let x = canonical_at c.args.ring.now c.args.from c.args.f.now (term c.term-term.result.coefficient c.term-term.result.exponents.now)
     c.requires.first.canonical c.term-term.ensures in
     multiple_canonical c.args.ring.now c.term-term.result.coefficient c.term-term.result.exponents.now
-    c.args.g.now c.requires.ring x.positive x.below x.places c.requires.second.canonical
+    c.args.g.now c.requires.ring.modulus x.positive x.below x.places c.requires.second.canonical
 
 pub returns-then-to-from-eq1-clause-product : goal.returns-then-to-from-eq1-clause-product
 returns-then-to-from-eq1-clause-product t c =

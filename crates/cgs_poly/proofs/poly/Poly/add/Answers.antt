@@ -6,11 +6,11 @@ use Rattle.cgs_poly.proofs.CanonicalLemmas.{append_of_ring, canonical_of_ring, p
 use Rattle.cgs_poly.proofs.poly.Poly.add.Goals as goal
 use Rattle.cgs_poly.proofs.poly.Poly.add.Goals.{In_ok-sum}
 
-pub merge-requires-clause-can : goal.merge-requires-clause-can
-merge-requires-clause-can c = each_trivial c.args.g.now
+pub merged-requires-clause-can : goal.merged-requires-clause-can
+merged-requires-clause-can c = each_trivial c.args.g.now
 
-pub merge-requires-clause-second : goal.merge-requires-clause-second
-merge-requires-clause-second c = subst (λ g. IsCanonical c.args.ring.now g) (sym (changed_not c.args.g.now)) c.requires.second.canonical
+pub merged-requires-clause-second : goal.merged-requires-clause-second
+merged-requires-clause-second c = subst (λ g. IsCanonical c.args.ring.now g) (sym (changed_not c.args.g.now)) c.requires.second.canonical
 
 sum_is : (c : In_ok-sum) → c.in_ok-sum.sum ≡ canonical c.args.ring.now (c.args.f.now ++ c.args.g.now)
 sum_is c = c.in_ok-sum.ensures ∙ ap (λ g. canonical c.args.ring.now (c.args.f.now ++ g)) (changed_not c.args.g.now)

@@ -2,7 +2,7 @@ use Rattle.std.proofs.Common.{ap, ◌∙◌, sym, refl}
 use Rattle.cgs_poly.specs.Polynomial.{term, canonical}
 use Rattle.cgs_poly.specs.Product.{scaled, leading_coefficient}
 use Rattle.cgs_poly.proofs.PlaceLemmas.{canonical_at}
-use Rattle.cgs_poly.proofs.ChangedLemmas.{monic_lead, monic_back}
+use Rattle.cgs_poly.proofs.ArithmeticLemmas.{monic_lead, monic_back}
 use Rattle.cgs_poly.proofs.MonicLemmas.{monic_zero, monic_by_lead}
 use Rattle.cgs_poly.proofs.poly.Poly.monic.Goals as goal
 

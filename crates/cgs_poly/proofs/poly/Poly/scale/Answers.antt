@@ -3,7 +3,8 @@ use Rattle.cgs_poly.specs.Polynomial.{IsPoly, canonical, coefficient}
 use Rattle.cgs_poly.specs.Product.{scaled}
 use Rattle.cgs_poly.proofs.CanonicalLemmas.{canonical_of_ring}
 use Rattle.cgs_poly.proofs.PlaceLemmas.{each_so}
-use Rattle.cgs_poly.proofs.ChangedLemmas.{scaled_canonical, canonical_scaled, scaled_poly, scaled_nothing, coefficient_scaled}
+use Rattle.cgs_poly.proofs.ChangedLemmas.{scaled_canonical, canonical_scaled}
+use Rattle.cgs_poly.proofs.ArithmeticLemmas.{scaled_poly, scaled_nothing, coefficient_scaled}
 use Rattle.cgs_poly.proofs.poly.Poly.scale.Goals as goal
 use Rattle.cgs_poly.proofs.poly.Poly.scale.Goals.{In_ok-scaled}
 
@@ -15,12 +16,12 @@ multiplied-requires-clause-can c = each_so (c.args.c < c.args.ring.now.modulus) 
 
 pub multiplied-requires-clause-multiple : goal.multiplied-requires-clause-multiple
 multiplied-requires-clause-multiple c =
-    scaled_canonical c.args.ring.now c.args.c c.args.f.now c.requires.ring (omega arith) c.requires.below c.requires.poly.canonical
+    scaled_canonical c.args.ring.now c.args.c c.args.f.now c.requires.ring.modulus (omega arith) c.requires.below c.requires.poly.canonical
 
 multiple_is : (c : In_ok-scaled) → c.in_ok-scaled.scaled ≡ canonical c.args.ring.now (scaled c.args.c c.args.f.now)
 multiple_is c =
     let pos : 0 < c.args.c = omega (arith, c.number.ensures, c.if-number-eq0.false) in
-    c.in_ok-scaled.ensures ∙ sym (canonical_scaled c.args.ring.now c.args.c c.args.f.now c.requires.ring pos c.requires.below c.requires.poly.canonical)
+    c.in_ok-scaled.ensures ∙ sym (canonical_scaled c.args.ring.now c.args.c c.args.f.now c.requires.ring.modulus pos c.requires.below c.requires.poly.canonical)
 
 pub returns-clause-multiple : goal.returns-clause-multiple
 returns-clause-multiple c = multiple_is c

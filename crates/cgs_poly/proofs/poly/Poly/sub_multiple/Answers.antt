@@ -8,7 +8,8 @@ use Rattle.cgs_poly.proofs.FaultLemmas.{not_of_degree}
 use Rattle.cgs_poly.proofs.RingLemmas.{ring_positive, places_few}
 use Rattle.cgs_poly.proofs.PlaceLemmas.{canonical_short, canonical_length}
 use Rattle.cgs_poly.proofs.ProductLemmas.{can_multiply, low_if_any, multiple_low, multiple_of_ring, fits_unless}
-use Rattle.cgs_poly.proofs.ChangedLemmas.{multiple_canonical, canonical_with_multiple, difference_back}
+use Rattle.cgs_poly.proofs.ChangedLemmas.{multiple_canonical, canonical_with_multiple}
+use Rattle.cgs_poly.proofs.ArithmeticLemmas.{difference_back}
 use Rattle.cgs_poly.proofs.CanonicalLemmas.{canonical_poly, append_of_ring, append_low, canonical_of_ring}
 use Rattle.cgs_poly.proofs.poly.Poly.sub_multiple.Goals as goal
 use Rattle.cgs_poly.proofs.poly.Poly.sub_multiple.Goals.{Else-exceeds, After-neg, In_ok-difference}
@@ -30,17 +31,17 @@ returns-then-exceeds-clause-degree c =
 fits : (c : Else-exceeds) → 0 < length c.args.g.now → degree c.args.m.now + top_degree c.args.g.now ≤ greatest_degree
 fits c = fits_unless c.exceeds.result (degree c.args.m.now) c.degree.result c.args.g.now c.degree.ensures c.if-exceeds.false c.exceeds.ensures.1
 
-pub merge-requires-clause-can : goal.merge-requires-clause-can
-merge-requires-clause-can c =
+pub merged-requires-clause-can : goal.merged-requires-clause-can
+merged-requires-clause-can c =
     let h : HaveLength (length c.args.m.now) c.args.g.now = rw c.requires.places (canonical_length c.args.ring.now c.args.g.now c.requires.second.canonical) in
     let few : length c.args.m.now ≤ 17 = omega (arith, c.requires.places, places_few c.args.ring.now c.requires.ring) in
     can_multiply c.neg.result c.args.ring.now.modulus c.args.m.now c.args.g.now c.neg.ensures.below
-    few h (fits (goal.at.merge-requires-clause-can c).Else-exceeds)
+    few h (fits (goal.at.merged-requires-clause-can c).Else-exceeds)
 
-pub merge-requires-clause-second : goal.merge-requires-clause-second
-merge-requires-clause-second c =
-    let o = opposite (goal.at.merge-requires-clause-second c).After-neg in
-    multiple_canonical c.args.ring.now c.neg.result c.args.m.now c.args.g.now c.requires.ring
+pub merged-requires-clause-second : goal.merged-requires-clause-second
+merged-requires-clause-second c =
+    let o = opposite (goal.at.merged-requires-clause-second c).After-neg in
+    multiple_canonical c.args.ring.now c.neg.result c.args.m.now c.args.g.now c.requires.ring.modulus
     (omega (arith, o, c.requires.below)) c.neg.ensures.below c.requires.places c.requires.second.canonical
 
 pub returns-in_err-difference-clause-degree : goal.returns-in_err-difference-clause-degree
@@ -54,7 +55,7 @@ difference_is : (c : In_ok-difference)
 difference_is c =
     let o : c.neg.result ≡ c.args.ring.now.modulus - c.args.c = c.neg.ensures.value ∙ mod-eq_of_lt (omega (arith, c.requires.positive, c.requires.below)) in
     c.in_ok-difference.ensures
-    ∙ (canonical_with_multiple c.args.ring.now c.neg.result c.args.m.now c.args.f.now c.args.g.now c.requires.ring (omega (arith, o, c.requires.below))
+    ∙ (canonical_with_multiple c.args.ring.now c.neg.result c.args.m.now c.args.f.now c.args.g.now c.requires.ring.modulus (omega (arith, o, c.requires.below))
     c.neg.ensures.below c.requires.places c.requires.first.canonical c.requires.second.canonical
     ∙ ap (λ k. canonical c.args.ring.now (c.args.f.now ++ multiple k c.args.m.now c.args.g.now)) o)
 

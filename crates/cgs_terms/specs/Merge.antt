@@ -1,0 +1,50 @@
+-- One step of a merge of two sorted lists: what goes before, and what becomes of a term of the second list.
+use Rattle.std.specs.Prelude.{ℕ, ◌≡◌, ◌≤◌, ◌+◌, cond, Option, Some, None, List, [], ◌∷◌, length}
+use Rattle.std.specs.List.{AllByRecursion}
+use Rattle.std.specs.declared.cmp.Ordering.TheVariants.{Greater}
+use Rattle.std.specs.Ordering.{is_eq, nat_cmp}
+use Rattle.std.specs.Cmp.Lexicographic.{slice_cmp}
+use Rattle.cgs_order.specs.declared.block.BlockOrder.{BlockOrder}
+use Rattle.cgs_order.specs.TermOrder.{compared}
+use Rattle.cgs_exps.specs.Monomial.{degree}
+use Rattle.cgs_terms.specs.declared.ring.Ring.{Ring}
+use Rattle.cgs_terms.specs.Polynomial.{Term, term, kept, greatest_degree}
+
+-- each monomial is above m
+abbrev pub AreAbove : BlockOrder → List ℕ → List Term → Type 0
+AreAbove order m f = AllByRecursion (λ x. compared order x.exponents m ≡ Greater) f
+
+-- the first monomial is not above m
+abbrev pub StartsNotAbove : BlockOrder → List ℕ → List Term → Type 0
+StartsNotAbove order m [] = Unit {0}
+StartsNotAbove order m (x ∷ f) = compared order x.exponents m ≡ Greater → ⊥
+
+-- the coefficient of the first term, if its monomial is m
+abbrev pub first_at : List ℕ → List Term → Option ℕ
+first_at m [] = None
+first_at m (x ∷ f) = cond (is_eq (slice_cmp nat_cmp x.exponents m)) (Some x.coefficient) None
+
+-- how many terms have such a coefficient: 1 or 0
+abbrev pub count_met : Option ℕ → ℕ
+count_met None = 0
+count_met (Some d) = 1
+
+-- c*m together with a term at m of that coefficient, if there is one
+abbrev pub joined : Ring → ℕ → List ℕ → Option ℕ → List Term
+joined ring c m None = term c m ∷ []
+joined ring c m (Some d) = kept ring (d + c) m []
+
+-- each term with its coefficient and its monomial changed
+abbrev pub changed : (ℕ → ℕ) → (List ℕ → List ℕ) → List Term → List Term
+changed a b [] = []
+changed a b (x ∷ f) = term (a x.coefficient) (b x.exponents) ∷ changed a b f
+
+-- each term is so
+abbrev pub EachTerm : (ℕ → List ℕ → Type 0) → List Term → Type 0
+EachTerm P f = AllByRecursion (λ x. P x.coefficient x.exponents) f
+
+-- two monomials of as many places, with a product of a low degree
+pub record CanMultiply (m n : List ℕ) : Type 0 where
+  pub places : length m ≡ length n
+  pub few : length n ≤ 17
+  pub low : degree m + degree n ≤ greatest_degree

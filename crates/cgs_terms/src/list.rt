@@ -1,0 +1,117 @@
+//! A list of terms, kept in two flat vectors.
+
+ghost use Rattle.std.specs.Prelude.{◌≡◌, ◌<◌, ◌↔◌, [], ◌∷◌, ◌++◌, Some, length, slice_get, IsTrue, OnOk, OnErr};
+ghost use Rattle.cgs_terms.specs.Polynomial.{term};
+ghost use Rattle.cgs_terms.specs.Draft.{HaveLength};
+ghost use Rattle.cgs_terms.specs.Flat.{coefficients_of, exponents_of};
+
+use crate::flat::{Flat, Term};
+use cgs_field::Elem;
+use cgs_list::Duplicate;
+use std::alloc::{AllocError, Global};
+use std::marker::Model;
+
+/// Terms in any order, also several of one monomial, which contracts see as their list.
+#[derive(Debug, Drop)]
+pub struct TermList {
+    pub(crate) coefficients: Vec<Elem>,
+    pub(crate) exponents: Vec<u16>,
+    pub(crate) places: usize,
+}
+
+impl Model for TermList {
+    ghost use Rattle.std.specs.Prelude.{◌≡◌, ◌*◌, List, length};
+    ghost use Rattle.cgs_terms.specs.Polynomial.{Term};
+    ghost use Rattle.cgs_terms.specs.Flat.{terms_of};
+
+    ghost Value = { List Term };
+
+    ghost view = { λ f. terms_of f.places f.coefficients.items f.exponents.items };
+
+    ghost invariant = { λ f. length f.exponents.items ≡ length f.coefficients.items * f.places };
+}
+
+impl TermList {
+    /// No terms.
+    pub fn new(alloc: Global) -> TermList
+        ensures { result ≡ [] }
+    {
+        TermList {
+            coefficients: Vec::new(alloc),
+            exponents: Vec::new(alloc),
+            places: 0,
+        }
+    }
+
+    /// The number of terms.
+    pub fn len(&self) -> usize
+        ensures { result ≡ length self.now }
+    {
+        self.flat().len()
+    }
+
+    /// The term at a place, counted from 0.
+    pub fn term(&self, i: usize) -> Term<'_>
+        requires { i < length self.now }
+        ensures { slice_get self.now i ≡ Some (term result.coefficient result.exponents.now) }
+    {
+        self.flat().term(i)
+    }
+
+    /// All terms, to be read.
+    pub fn flat(&self) -> Flat<'_>
+        ensures { result ≡ self.now }
+    {
+        Flat {
+            coefficients: &self.coefficients,
+            exponents: &self.exponents,
+            places: self.places,
+        }
+    }
+
+    /// The coefficients of all terms.
+    pub fn coefficients(&self) -> &[Elem]
+        ensures { result.now ≡ coefficients_of self.now }
+    {
+        self.coefficients.as_slice()
+    }
+
+    /// The exponents of all terms, one monomial after the other.
+    pub fn exponents(&self) -> &[u16]
+        ensures { result.now ≡ exponents_of self.now }
+    {
+        self.exponents.as_slice()
+    }
+
+    /// Puts a term at the end. An error leaves the terms as they were.
+    pub fn push(&mut self, c: Elem, m: &[u16]) -> Result<(), AllocError>
+        requires places { HaveLength (length m.now) self.old }
+        ensures ok { OnOk result (self.new ≡ self.old ++ term c m.now ∷ []) }
+        ensures err { OnErr result (self.new ≡ self.old) }
+    {
+        self.coefficients.reserve(1)?;
+        self.exponents.extend_from_slice(m)?;
+        self.coefficients.push(c)?;
+        self.places = m.len();
+        Ok(())
+    }
+
+    /// Whether two lists are equal. Exponents are compared first: different members of a list mostly differ in the lead.
+    pub fn same(&self, other: &TermList) -> bool
+        ensures { IsTrue result ↔ (self.now ≡ other.now) }
+    {
+        self.exponents == other.exponents && self.coefficients == other.coefficients
+    }
+}
+
+impl Duplicate for TermList {
+    fn copy(&self) -> Result<TermList, AllocError> {
+        let coefficients = self.coefficients.clone()?;
+        let exponents = self.exponents.clone()?;
+        Ok(TermList {
+            coefficients,
+            exponents,
+            places: self.places,
+        })
+    }
+}

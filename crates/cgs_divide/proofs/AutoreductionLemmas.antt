@@ -11,7 +11,7 @@ use Rattle.cgs_exps.specs.Monomial.{product, divides}
 use Rattle.cgs_exps.proofs.MonomialLemmas.{product_length, divides_product}
 use Rattle.cgs_order.specs.TermOrder.{compared}
 use Rattle.cgs_order.proofs.OrderLemmas.{compared_equal, compared_back, compared_not_self}
-use Rattle.cgs_poly.specs.declared.ring.Ring.{Ring}
+use Rattle.cgs_poly.specs.Ring.{Ring}
 use Rattle.cgs_poly.specs.Polynomial.{Term, places, order_of, total, indicator, StartsBelow, IsCanonical}
 use Rattle.cgs_poly.specs.Product.{leading_monomial, leading_coefficient}
 use Rattle.cgs_poly.proofs.SumLemmas.{only_same, total_append}

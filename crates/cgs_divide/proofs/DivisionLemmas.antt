@@ -8,9 +8,11 @@ use Rattle.cgs_field.proofs.ModularLemmas.{mod_add}
 use Rattle.cgs_exps.specs.Monomial.{degree, product, divides, quotient}
 use Rattle.cgs_exps.proofs.MonomialLemmas.{product_comm, quotient_product, quotient_length, degree_quotient}
 use Rattle.cgs_order.specs.TermOrder.{compared}
-use Rattle.cgs_poly.specs.declared.ring.Ring.{Ring}
+use Rattle.cgs_poly.specs.Ring.{Ring}
 use Rattle.cgs_poly.specs.Polynomial.{Term, term, places, order_of, total, IsOfRing, StartsBelow, IsCanonical, HasLowDegrees, greatest_degree}
+use Rattle.cgs_poly.specs.Polynomial.{IsRing, IsPoly}
 use Rattle.cgs_poly.specs.Product.{multiple, leading_monomial, leading_coefficient}
+use Rattle.cgs_poly.proofs.RingLemmas.{ring_positive}
 use Rattle.cgs_poly.proofs.SumLemmas.{alike_same, alike_from_coefficients, coefficients_from_alike, total_append}
 use Rattle.cgs_poly.proofs.CanonicalLemmas.{all_below_canonical, AllBelow, all_below_append, canonical_of_ring, is_canonical, canonical_alike, canonical_same}
 use Rattle.cgs_poly.proofs.CanonicalLemmas.{canonical_starts, canonical_low, append_of_ring, append_low, starts_lower}
@@ -20,8 +22,8 @@ use Rattle.cgs_poly.proofs.ProductOrderLemmas.{compared_shift}
 use Rattle.cgs_algebra.specs.Groebner.{AreMonic, DividesNone, leading_monomial_at}
 use Rattle.cgs_algebra.proofs.RepresentationLemmas.{lead_at_length}
 use Rattle.cgs_divide.specs.DivisionRun.{Run, done, out_of_budget, out_of_degree, first_divisor, is_too_high, less_multiple, charged, with_remainder}
-use Rattle.cgs_divide.specs.DivisionRun.{with_quotient, added_at, divided_in, divided}
-use Rattle.cgs_divide.specs.Division.{products, TermsBelow, HasDivided}
+use Rattle.cgs_divide.specs.DivisionRun.{with_quotient, added_at, divided_in, divided, LeavesRemainder}
+use Rattle.cgs_divide.specs.Division.{products, TermsBelow, HasDivided, IsRemainder}
 use Rattle.cgs_divide.proofs.QuotientLemmas.{divisor_divides, none_divides, not_too_high, added_length, total_added, below_added}
 use Rattle.cgs_divide.proofs.QuotientLemmas.{below_at, zeros, zeros_length, zeros_products, zeros_below}
 use Rattle.std.specs.List.{AllByRecursion}
@@ -289,3 +291,16 @@ module _ (ring : Ring) (G : List (List Term)) (pos : 0 < ring.modulus) (ok : Are
       → HasDivided ring G f remainder quotients
   unfolding divided
   divided_divides units left f remainder quotients h e = run_divides (suc units) units left f remainder quotients h e
+
+-- a remainder that a run leaves
+
+pub left_divided : (ring : Ring) (G : List (List Term)) (units left : ℕ) (f remainder : List Term) → IsRing ring → AreMonic ring G → IsPoly ring f
+    → LeavesRemainder (divided ring G units f) remainder left → IsRemainder ring G f remainder
+left_divided ring G units left f remainder r ok h e = record {
+  quotients = e.quotients;
+  divided = divided_divides ring G (ring_positive ring r) ok units left f remainder e.quotients h.canonical e.ends;
+}
+
+pub remainder_poly : (ring : Ring) (G : List (List Term)) (f remainder : List Term) (quotients : List (List Term)) → IsPoly ring f
+    → HasDivided ring G f remainder quotients → IsPoly ring remainder
+remainder_poly ring G f remainder quotients h d = record { canonical = d.canonical_remainder; low = d.low_remainder h.low }

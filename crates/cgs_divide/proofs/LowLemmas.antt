@@ -1,7 +1,7 @@
 -- An autoreduction of polynomials as a program keeps them leaves such polynomials.
 use Rattle.std.proofs.Common.{ℕ, ◌≡◌, ◌<◌, List, [], arith}
 use Rattle.cgs_field.proofs.PrimeLemmas.{modulus_field}
-use Rattle.cgs_poly.specs.declared.ring.Ring.{Ring}
+use Rattle.cgs_poly.specs.Ring.{Ring}
 use Rattle.cgs_poly.specs.Polynomial.{Term, IsRing, IsPoly, ArePolys}
 use Rattle.cgs_list.proofs.ListLemmas.{all_at_place, all_by_places}
 use Rattle.cgs_algebra.specs.Groebner.{AreMonic}

@@ -1,7 +1,7 @@
 -- The monic multiple of a polynomial that is not 0.
 use Rattle.std.proofs.Common.{ℕ, ◌≡◌, ◌*◌, ◌%◌, List, ◌∷◌, sym, ap, ◌∙◌}
 use Rattle.std.proofs.Math.Nat.{one-mul}
-use Rattle.cgs_poly.specs.declared.ring.Ring.{Ring}
+use Rattle.cgs_poly.specs.Ring.{Ring}
 use Rattle.cgs_poly.specs.Polynomial.{Term, total, IsRing, IsCanonical}
 use Rattle.cgs_poly.specs.Product.{leading_monomial, leading_coefficient}
 use Rattle.cgs_field.specs.Inverse.{inverse}

@@ -4,7 +4,7 @@ use Rattle.std.proofs.lemmas.Bool.{ltb-true, ltb-false}
 use Rattle.std.specs.declared.cmp.Ordering.TheVariants.{Less}
 use Rattle.cgs_exps.specs.Monomial.{product, degree, divides}
 use Rattle.cgs_order.specs.TermOrder.{compared}
-use Rattle.cgs_poly.specs.declared.ring.Ring.{Ring}
+use Rattle.cgs_poly.specs.Ring.{Ring}
 use Rattle.cgs_poly.specs.Polynomial.{Term, order_of, total, HasLowDegrees, greatest_degree}
 use Rattle.cgs_poly.specs.Product.{multiple, all_products, leading_monomial}
 use Rattle.cgs_poly.proofs.SumLemmas.{total_append}
@@ -101,11 +101,6 @@ zeros G = map (λ g. []) G
 pub zeros_length : (G : List (List Term)) → length (zeros G) ≡ length G
 zeros_length [] = refl
 zeros_length (g ∷ G) = ap suc (zeros_length G)
-
-pub zeros_at : (G : List (List Term)) (i : ℕ) → get_or (zeros G) i [] ≡ []
-zeros_at [] i = refl
-zeros_at (g ∷ G) zero = refl
-zeros_at (g ∷ G) (suc i) = zeros_at G i
 
 pub zeros_products : (G : List (List Term)) → products (zeros G) G ≡ []
 zeros_products [] = refl

@@ -1,7 +1,7 @@
 -- What a step leaves of a polynomial in two pieces: a front, and terms of the polynomial itself that no step has reached.
 use Rattle.std.proofs.Common.{ℕ, zero, suc, ◌≡◌, ◌+◌, ◌-◌, ◌%◌, ◌<◌, ◌≤◌, Bool, true, false, cond, eqb, Some, Ok, Err, List, [], ◌∷◌, ◌++◌, length, take, drop}
-use Rattle.std.proofs.Common.{append_assoc, refl, sym, ap, ◌∙◌, subst, arith}
-use Rattle.std.proofs.lemmas.List.{append-nil, drop-drop, drop_all}
+use Rattle.std.proofs.Common.{append_assoc, get_or, get_or-drop, refl, sym, ap, ◌∙◌, subst, arith}
+use Rattle.std.proofs.lemmas.List.{append-nil, drop-drop, drop_all, take_more, length-drop}
 use Rattle.std.specs.Prelude.{slice_get, Result, OnOk, IsErr}
 use Rattle.std.specs.Result.{is_err}
 use Rattle.std.specs.declared.cmp.Ordering.{Ordering}
@@ -10,7 +10,7 @@ use Rattle.cgs_list.proofs.ListLemmas.{drop_parts}
 use Rattle.cgs_exps.specs.Monomial.{degree, product}
 use Rattle.cgs_order.specs.TermOrder.{compared}
 use Rattle.cgs_order.proofs.OrderLemmas.{compared_trans, compared_back, compared_forth}
-use Rattle.cgs_poly.specs.declared.ring.Ring.{Ring}
+use Rattle.cgs_poly.specs.Ring.{Ring}
 use Rattle.cgs_poly.specs.Polynomial.{Term, term, order_of, places, total, IsOfRing, StartsBelow, IsCanonical, IsPoly, HasLowDegrees, greatest_degree, kept}
 use Rattle.cgs_poly.specs.Polynomial.{inserted, canonical}
 use Rattle.cgs_poly.specs.Product.{multiple}
@@ -20,6 +20,19 @@ use Rattle.cgs_poly.proofs.CanonicalLemmas.{same_canonical, is_canonical, canoni
 use Rattle.cgs_poly.proofs.PlaceLemmas.{canonical_drop}
 use Rattle.cgs_poly.proofs.ProductOrderLemmas.{compared_shift}
 use Rattle.cgs_poly.proofs.ProductLemmas.{low_drop}
+use Rattle.cgs_divide.proofs.StepLemmas.{get_read}
+
+-- one term more of those from a place on
+pub pushed_one : (front f : List Term) (from i : ℕ) (x : Term) → from ≤ i → i < length f → slice_get f i ≡ Some x
+    → (front ++ take (i - from) (drop from f)) ++ x ∷ [] ≡ front ++ take (i + 1 - from) (drop from f)
+pushed_one front f from i x le l e =
+    let k : i + 1 - from ≡ (i - from) + 1 = omega arith in
+    let s : from + (i - from) ≡ i = omega arith in
+    let below : i - from < length (drop from f) = omega (arith, length-drop from f) in
+    let at : get_or (drop from f) (i - from) x ≡ x = rw (get_or-drop, s) (get_read f i x x e) in
+    let more : take (i + 1 - from) (drop from f) ≡ take (i - from) (drop from f) ++ x ∷ [] =
+    ap (λ n. take n (drop from f)) k ∙ (take_more (drop from f) (i - from) x below ∙ ap (λ y. take (i - from) (drop from f) ++ y ∷ []) at) in
+    append_assoc front (take (i - from) (drop from f)) (x ∷ []) ∙ ap (λ m. front ++ m) (sym more)
 
 -- the leading term
 

@@ -1,9 +1,10 @@
 -- A division run after terms that were found before it: what a loop has done so far, and the run that is left to it.
 use Rattle.std.proofs.Common.{ℕ, zero, suc, ◌≡◌, ◌-◌, Bool, true, false, cond, ltb, List, [], ◌∷◌, ◌++◌, length, get_or, set, append_assoc, refl, sym, ap, ◌∙◌}
+use Rattle.std.proofs.Common.{◌≤◌, replicate, take}
 use Rattle.std.proofs.Common.{arith}
 use Rattle.std.proofs.lemmas.List.{append-nil}
 use Rattle.cgs_exps.specs.Monomial.{quotient}
-use Rattle.cgs_poly.specs.declared.ring.Ring.{Ring}
+use Rattle.cgs_poly.specs.Ring.{Ring}
 use Rattle.cgs_poly.specs.Polynomial.{Term, term}
 use Rattle.cgs_poly.specs.Product.{multiple, leading_monomial}
 use Rattle.cgs_divide.specs.DivisionRun.{Run, done, out_of_budget, out_of_degree, first_divisor, is_too_high, less_multiple, charged, with_remainder}
@@ -21,6 +22,33 @@ abbrev pub resumed : List Term → List (List Term) → Run → Run
 resumed before quotients (done remainder more units) = done (before ++ remainder) (joined quotients more) units
 resumed before quotients (out_of_budget units) = out_of_budget units
 resumed before quotients (out_of_degree units) = out_of_degree units
+
+-- a whole run is what was found so far, with quotients of which the first so many are kept, and the run that is left
+pub record IsResumed (whole : Run) (before : List Term) (count some : ℕ) (front : List (List Term)) (next : Run) : Type 0 where
+  pub quotients : List (List Term)
+  pub run : whole ≡ resumed before quotients next
+  pub kept : front ≡ take some quotients
+  pub places : length quotients ≡ count
+
+-- a term of the quotient at a place, of those that are kept and of all
+pub front_set : (n i : ℕ) (quotients : List (List Term)) (x : Term)
+    → set (take n quotients) i (get_or (take n quotients) i [] ++ x ∷ []) ≡ take n (set quotients i (get_or quotients i [] ++ x ∷ []))
+front_set zero i quotients x = refl
+front_set (suc n) i [] x = refl
+front_set (suc n) zero (q ∷ quotients) x = refl
+front_set (suc n) (suc i) (q ∷ quotients) x = ap (λ k. q ∷ k) (front_set n i quotients x)
+
+-- what is kept at the start
+
+pub zeros_front : (n : ℕ) (G : List (List Term)) → n ≤ length G → replicate n [] ≡ take n (zeros G)
+zeros_front zero G l = refl
+zeros_front (suc n) [] l = absurd (omega arith)
+zeros_front (suc n) (g ∷ G) l = ap (λ k. [] ∷ k) (zeros_front n G (omega arith))
+
+pub empty_at : (n i : ℕ) → get_or {A = List Term} (replicate n []) i [] ≡ []
+empty_at zero i = refl
+empty_at (suc n) zero = refl
+empty_at (suc n) (suc i) = empty_at n i
 
 pub resumed_charged : (before : List Term) (quotients : List (List Term)) (cost units : ℕ) (run : Run)
     → resumed before quotients (charged cost units run) ≡ charged cost units (resumed before quotients run)

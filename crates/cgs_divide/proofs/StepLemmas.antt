@@ -1,25 +1,24 @@
 -- One step of a run that a loop makes, with the remainder so far and the terms that are left.
-use Rattle.std.proofs.Common.{ℕ, zero, suc, ◌≡◌, ◌+◌, ◌-◌, ◌<◌, ◌≤◌, Bool, true, false, cond, List, [], ◌∷◌, ◌++◌, length, get_or, set, replicate, drop, Some}
+use Rattle.std.proofs.Common.{ℕ, zero, suc, ◌≡◌, ◌+◌, ◌-◌, ◌<◌, ◌≤◌, Bool, true, false, cond, List, [], ◌∷◌, ◌++◌, length, get_or, set, drop, Some}
 use Rattle.std.proofs.Common.{Ok, Err, refl, sym, ap, ◌∙◌, arith}
 use Rattle.std.proofs.lemmas.Bool.{lt-ltb, le-ltb}
 use Rattle.std.proofs.lemmas.Option.{unwrap_or-slice_get}
 use Rattle.std.specs.Prelude.{slice_get, unwrap_or, Result, IsErrAnd, IsErrOf}
 use Rattle.cgs_list.proofs.ListLemmas.{drop_at}
 use Rattle.cgs_exps.specs.Monomial.{divides, quotient}
-use Rattle.cgs_poly.specs.declared.ring.Ring.{Ring}
+use Rattle.cgs_poly.specs.Ring.{Ring}
 use Rattle.cgs_poly.specs.Polynomial.{Term, term, HasLowDegrees}
 use Rattle.cgs_poly.specs.Draft.{HaveLength}
 use Rattle.cgs_poly.specs.declared.fault.PolyFault.{PolyFault}
 use Rattle.cgs_poly.specs.declared.fault.PolyFault.TheVariants as fault
 use Rattle.cgs_poly.specs.Product.{multiple, leading_monomial}
-use Rattle.cgs_poly.proofs.ParameterLemmas.{lead_first}
 use Rattle.cgs_algebra.specs.Groebner.{AreMonic, leading_monomial_at}
 use Rattle.cgs_divide.specs.declared.stop.Stop.{Stop}
 use Rattle.cgs_divide.specs.declared.stop.Stop.TheVariants as stop
 use Rattle.cgs_divide.specs.Stop.{stop_of}
 use Rattle.cgs_divide.specs.DivisionRun.{Run, out_of_budget, out_of_degree, first_divisor, is_too_high, less_multiple, charged, with_remainder, with_quotient}
 use Rattle.cgs_divide.specs.DivisionRun.{divided}
-use Rattle.cgs_divide.proofs.QuotientLemmas.{zeros, not_too_high, too_high}
+use Rattle.cgs_divide.proofs.QuotientLemmas.{not_too_high, too_high}
 use Rattle.cgs_divide.proofs.RunLemmas.{divided_kept, divided_taken}
 use Rattle.cgs_divide.proofs.ResumedLemmas.{resumed, resumed_charged, resumed_remainder, resumed_quotient}
 
@@ -51,15 +50,6 @@ not_first (g ∷ G) m (suc i) l h d = by_test (divides (leading_monomial g) m) h
 
 pub get_read : {X : Type 0} (xs : List X) (i : ℕ) (x d : X) → slice_get xs i ≡ Some x → get_or xs i d ≡ x
 get_read xs i x d e = sym (unwrap_or-slice_get xs i d) ∙ ap (λ o. unwrap_or o d) e
-
-pub lead_read : (G : List (List Term)) (i : ℕ) (g : List Term) (x : Term) → slice_get G i ≡ Some g → slice_get g 0 ≡ Some x
-    → leading_monomial_at G i ≡ x.exponents
-lead_read G i g x e k = ap (λ h. leading_monomial h) (get_read G i g [] e) ∙ lead_first g x k
-
--- what a loop begins with
-pub replicate_zeros : (G : List (List Term)) → replicate (length G) [] ≡ zeros G
-replicate_zeros [] = refl
-replicate_zeros (g ∷ G) = ap (λ n. [] ∷ n) (replicate_zeros G)
 
 -- steps that end the run, and steps that are paid
 

@@ -4,7 +4,7 @@ use Rattle.std.specs.List.{AllByRecursion}
 use Rattle.std.specs.declared.cmp.Ordering.TheVariants.{Less}
 use Rattle.cgs_exps.specs.Monomial.{product}
 use Rattle.cgs_order.specs.TermOrder.{compared}
-use Rattle.cgs_poly.specs.declared.ring.Ring.{Ring}
+use Rattle.cgs_poly.specs.Ring.{Ring}
 use Rattle.cgs_poly.specs.Polynomial.{Term, order_of, IsCanonical, StartsBelow, SameCoefficients, HasLowDegrees}
 use Rattle.cgs_poly.specs.Product.{all_products, leading_monomial}
 use Rattle.cgs_algebra.specs.Groebner.{DividesNone}
@@ -37,3 +37,8 @@ pub record HasDivided (ring : Ring) (G : List (List Term)) (f remainder : List T
   pub canonical_quotients : AllByRecursion (IsCanonical ring) quotients
   pub low_remainder : HasLowDegrees f → HasLowDegrees remainder
   pub low_quotients : HasLowDegrees f → AllByRecursion HasLowDegrees quotients
+
+-- a division of f by G finds this remainder, and some quotients
+pub record IsRemainder (ring : Ring) (G : List (List Term)) (f remainder : List Term) : Type 0 where
+  pub quotients : List (List Term)
+  pub divided : HasDivided ring G f remainder quotients

@@ -1,7 +1,8 @@
 -- The division of a polynomial by a list of polynomials (Cox, Little, O'Shea, chapter 2, section 3), with units of work and a limit on degrees.
-use Rattle.std.specs.Prelude.{ℕ, zero, suc, ◌-◌, Bool, false, cond, ◌||◌, List, [], ◌∷◌, ◌++◌, length, slice_index_or, nat_lt, map}
+use Rattle.std.specs.Prelude.{ℕ, zero, suc, ◌≡◌, ◌-◌, Bool, false, cond, ◌||◌, List, [], ◌∷◌, ◌++◌, length, slice_index_or, nat_lt, map}
 use Rattle.cgs_exps.specs.Monomial.{degree, divides, quotient}
-use Rattle.cgs_poly.specs.declared.ring.Ring.{Ring}
+use Rattle.cgs_exps.specs.Mask.{mask}
+use Rattle.cgs_poly.specs.Ring.{Ring}
 use Rattle.cgs_poly.specs.Polynomial.{Term, term, canonical, greatest_degree}
 use Rattle.cgs_poly.specs.Product.{multiple, leading_monomial}
 
@@ -11,10 +12,19 @@ pub data Run : Type 0 where
   out_of_budget : ℕ → Run
   out_of_degree : ℕ → Run
 
+-- the run ends with this remainder and so many units left, whatever its quotients are
+pub record LeavesRemainder (run : Run) (remainder : List Term) (units : ℕ) : Type 0 where
+  pub quotients : List (List Term)
+  pub ends : run ≡ done remainder quotients units
+
 -- the place of the first polynomial whose lead divides m, or the number of polynomials
 abbrev pub first_divisor : List (List Term) → List ℕ → ℕ
 first_divisor [] m = 0
 first_divisor (g ∷ G) m = cond (divides (leading_monomial g) m) 0 (suc (first_divisor G m))
+
+-- the mask of the lead
+abbrev pub lead_mask : List Term → ℕ
+lead_mask g = mask (leading_monomial g)
 
 -- some monomial has a degree above the limit
 abbrev pub is_too_high : List Term → Bool

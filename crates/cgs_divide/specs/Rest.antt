@@ -1,6 +1,6 @@
 -- What is left of a polynomial f: some terms of a front, and behind them terms of f itself.
 use Rattle.std.specs.Prelude.{◌≤◌, List, ◌++◌, length, drop}
-use Rattle.cgs_poly.specs.declared.ring.Ring.{Ring}
+use Rattle.cgs_poly.specs.Ring.{Ring}
 use Rattle.cgs_poly.specs.Polynomial.{Term, IsPoly, places}
 use Rattle.cgs_poly.specs.Draft.{HaveLength}
 use Rattle.cgs_divide.specs.declared.rest.Rest.{Rest}

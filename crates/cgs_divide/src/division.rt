@@ -1,20 +1,22 @@
 //! The division of a polynomial by a list of polynomials.
 
-ghost use Rattle.std.specs.Prelude.{◌≡◌, ◌<◌, ◌≤◌, ◌-◌, ◌++◌, ℕ, [], ◌∷◌, true, false, length, slice_index_or, replicate, IsTrue, IsNone, IfSome, IfOk, OnOk, OnErr, IsErrOf, IfErr};
+ghost use Rattle.std.specs.Prelude.{◌≡◌, ◌<◌, ◌≤◌, ◌-◌, ◌++◌, ℕ, [], ◌∷◌, true, false, length, slice_index_or, slice_set, take, map, replicate, IsTrue, IsNone, IfSome, IfOk, OnOk, OnErr, IsErrOf, IfErr};
 ghost use Rattle.cgs_exps.specs.Monomial as monomial;
+ghost use Rattle.cgs_exps.specs.Mask as masks;
 ghost use Rattle.cgs_poly.specs.Polynomial.{IsRing, IsPoly, places, term, greatest_degree, ArePolys};
 ghost use Rattle.cgs_poly.specs.Product.{leading_monomial, multiple};
 ghost use Rattle.cgs_poly.specs.Draft.{HaveLength};
 ghost use Rattle.cgs_algebra.specs.Groebner.{AreMonic};
-ghost use Rattle.cgs_divide.specs.DivisionRun.{divided, done, out_of_budget, out_of_degree, is_too_high};
+ghost use Rattle.cgs_divide.specs.DivisionRun.{divided, done, out_of_budget, out_of_degree, is_too_high, lead_mask, LeavesRemainder};
 ghost use Rattle.cgs_divide.specs.DivisionRun as run;
-ghost use Rattle.cgs_divide.specs.Division.{HasDivided};
+ghost use Rattle.cgs_divide.specs.Division.{HasDivided, IsRemainder};
 ghost use Rattle.cgs_divide.specs.Rest.{left, IsRest};
 
 use crate::rest::Rest;
 use crate::stop::Stop;
-use cgs_exps::{MAX_PLACES, divides, quotient_into};
-use cgs_poly::{Poly, PolyList, Ring, Term};
+use cgs_exps::{MAX_PLACES, divides, mask, may_divide, quotient_into};
+use cgs_field::Elem;
+use cgs_poly::{Poly, PolyList, Ring};
 use std::alloc::{AllocError, Global};
 
 /// What a division finds: no lead of a divisor divides a monomial of the remainder, and there is a quotient for each
@@ -47,11 +49,58 @@ pub fn divide(
     ensures degree { IsErrOf result Stop.Degree → divided ring.now divisors.now fuel.old f.now ≡ out_of_degree fuel.new }
     ensures units { fuel.new ≤ fuel.old }
 {
+    divide_keeping(alloc, ring, f, divisors, divisors.len(), fuel)
+}
+
+/// The remainder alone, by the same steps as in `divide`, where nobody asks for the quotients. Units and errors are as for
+/// `divide`.
+pub fn remainder(
+    alloc: Global,
+    ring: &Ring,
+    f: &Poly,
+    divisors: &PolyList,
+    fuel: &mut u64,
+) -> Result<Poly, Stop>
+    requires ring { IsRing ring.now }
+    requires poly { IsPoly ring.now f.now }
+    requires monic { AreMonic ring.now divisors.now }
+    requires divisors { ArePolys ring.now divisors.now }
+    ensures ok { IfOk result (λ r. LeavesRemainder (divided ring.now divisors.now fuel.old f.now) r fuel.new) }
+    ensures found { IfOk result (λ r. IsRemainder ring.now divisors.now f.now r) }
+    ensures poly { IfOk result (λ r. IsPoly ring.now r) }
+    ensures budget { IsErrOf result Stop.Budget → divided ring.now divisors.now fuel.old f.now ≡ out_of_budget fuel.new }
+    ensures degree { IsErrOf result Stop.Degree → divided ring.now divisors.now fuel.old f.now ≡ out_of_degree fuel.new }
+    ensures units { fuel.new ≤ fuel.old }
+{
+    let Division { remainder, .. } = divide_keeping(alloc, ring, f, divisors, 0, fuel)?;
+    Ok(remainder)
+}
+
+// The division with the quotients of the first `kept` divisors.
+fn divide_keeping(
+    alloc: Global,
+    ring: &Ring,
+    f: &Poly,
+    divisors: &PolyList,
+    kept: usize,
+    fuel: &mut u64,
+) -> Result<Division, Stop>
+    requires ring { IsRing ring.now }
+    requires poly { IsPoly ring.now f.now }
+    requires monic { AreMonic ring.now divisors.now }
+    requires divisors { ArePolys ring.now divisors.now }
+    requires kept { kept ≤ length divisors.now }
+    ensures ok { IfOk result (λ d. (e : LeavesRemainder (divided ring.now divisors.now fuel.old f.now) d.remainder fuel.new) × (d.quotients ≡ take kept e.quotients)) }
+    ensures budget { IsErrOf result Stop.Budget → divided ring.now divisors.now fuel.old f.now ≡ out_of_budget fuel.new }
+    ensures degree { IsErrOf result Stop.Degree → divided ring.now divisors.now fuel.old f.now ≡ out_of_degree fuel.new }
+    ensures units { fuel.new ≤ fuel.old }
+{
     let mut rest = Rest::whole(alloc);
     let mut remainder = Poly::zero(alloc);
-    let mut quotients = zeros(alloc, divisors.len())?;
+    let mut quotients = zeros(alloc, kept)?;
+    let masks = lead_masks(alloc, divisors)?;
     while let Some(leading) = rest.lead(f) {
-        match first_divisor(divisors, leading.exponents) {
+        match first_divisor(divisors, &masks, leading.exponents) {
             None => {
                 spend(fuel, 1)?;
                 remainder.push(leading.coefficient, leading.exponents)?;
@@ -59,16 +108,12 @@ pub fn divide(
             }
             Some(i) => {
                 let divisor = divisors.get(i);
-                rest = reduced(
-                    alloc,
-                    ring,
-                    f,
-                    &rest,
-                    &leading,
-                    divisor,
-                    &mut quotients[i],
-                    fuel,
-                )?;
+                let c = leading.coefficient;
+                let mut room = [0; MAX_PLACES];
+                let t = &mut room[..leading.exponents.len()];
+                lead_quotient_into(leading.exponents, divisor, t);
+                keep_term(&mut quotients, i, c, t)?;
+                reduce(alloc, ring, f, &mut rest, c, t, divisor, fuel)?;
             }
         }
     }
@@ -89,20 +134,47 @@ fn zeros(alloc: Global, count: usize) -> Result<Vec<Poly>, AllocError>
     Ok(zeros)
 }
 
+// The masks of the divisors' leads.
+fn lead_masks(alloc: Global, divisors: &PolyList) -> Result<Vec<u32>, AllocError>
+    requires some { (i : ℕ) → i < length divisors.now → 0 < length (slice_index_or divisors.now i []) }
+    requires places { (i : ℕ) → i < length divisors.now → length (leading_monomial (slice_index_or divisors.now i [])) ≤ MAX_PLACES }
+    ensures { IfOk result (λ masks. masks.items ≡ map lead_mask divisors.now) }
+{
+    let mut masks = Vec::with_capacity(alloc, divisors.len())?;
+    for i in 0..divisors.len() {
+        masks.push(mask(divisors.get(i).term(0).exponents))?;
+    }
+    Ok(masks)
+}
+
 // The place of the first divisor whose lead divides a monomial.
-fn first_divisor(divisors: &PolyList, m: &[u16]) -> Option<usize>
+fn first_divisor(divisors: &PolyList, masks: &[u32], m: &[u16]) -> Option<usize>
     requires places { length m.now ≤ MAX_PLACES }
     requires some { (i : ℕ) → i < length divisors.now → 0 < length (slice_index_or divisors.now i []) }
     requires lengths { (i : ℕ) → i < length divisors.now → length (leading_monomial (slice_index_or divisors.now i [])) ≡ length m.now }
+    requires masks { masks.now ≡ map lead_mask divisors.now }
     ensures none { IsNone result → length divisors.now ≤ run.first_divisor divisors.now m.now }
     ensures first { IfSome result (λ i. (i < length divisors.now) × (run.first_divisor divisors.now m.now ≡ i)) }
 {
+    let m_mask = mask(m);
     for i in 0..divisors.len() {
-        if divides(divisors.get(i).term(0).exponents, m) {
+        if lead_divides(divisors.get(i), masks[i], m, m_mask) {
             return Some(i);
         }
     }
     None
+}
+
+// Whether the lead of a divisor divides a monomial. Most divisors are passed over by their masks.
+fn lead_divides(divisor: &Poly, lead_mask: u32, m: &[u16], m_mask: u32) -> bool
+    requires some { 0 < length divisor.now }
+    requires same_places { length (leading_monomial divisor.now) ≡ length m.now }
+    requires places { length m.now ≤ MAX_PLACES }
+    requires lead { lead_mask ≡ masks.mask (leading_monomial divisor.now) }
+    requires mask { m_mask ≡ masks.mask m.now }
+    ensures { result ≡ monomial.divides (leading_monomial divisor.now) m.now }
+{
+    may_divide(lead_mask, m_mask) && divides(divisor.term(0).exponents, m)
 }
 
 /// Takes the cost of a step from the units that are left. It errs where the step costs more, and takes nothing then.
@@ -118,42 +190,58 @@ pub fn spend(fuel: &mut u64, cost: u64) -> Result<(), Stop>
     Ok(())
 }
 
-// What is left of `rest` by the step that takes its leading term with a divisor; the quotient gets a term.
-fn reduced(
+// Writes the monomial that the lead of a divisor is multiplied by to make a monomial into `out`.
+fn lead_quotient_into(m: &[u16], divisor: &Poly, out: &mut [u16])
+    requires some { 0 < length divisor.now }
+    requires same_places { length (leading_monomial divisor.now) ≡ length m.now }
+    requires out_places { length out.old ≡ length m.now }
+    requires places { length m.now ≤ MAX_PLACES }
+    requires divides { IsTrue (monomial.divides (leading_monomial divisor.now) m.now) }
+    ensures { out.new ≡ monomial.quotient m.now (leading_monomial divisor.now) }
+{
+    quotient_into(m, divisor.term(0).exponents, out);
+}
+
+// The step that subtracts a multiple of a divisor from what is left.
+fn reduce(
     alloc: Global,
     ring: &Ring,
     f: &Poly,
-    rest: &Rest,
-    leading: &Term<'_>,
+    rest: &mut Rest,
+    c: Elem,
+    t: &[u16],
     divisor: &Poly,
-    quotient: &mut Poly,
     fuel: &mut u64,
-) -> Result<Rest, Stop>
+) -> Result<(), Stop>
     requires ring { IsRing ring.now }
     requires poly { IsPoly ring.now f.now }
-    requires rest { IsRest ring.now f.now rest.now }
-    requires positive { 0 < leading.now.coefficient }
-    requires below { leading.now.coefficient < ring.now.modulus }
-    requires places { length leading.now.exponents.now ≡ places ring.now }
-    requires low { monomial.degree leading.now.exponents.now ≤ greatest_degree }
+    requires rest { IsRest ring.now f.now rest.old }
+    requires positive { 0 < c }
+    requires below { c < ring.now.modulus }
+    requires places { length t.now ≡ places ring.now }
+    requires low { monomial.degree t.now ≤ greatest_degree }
     requires divisor { IsPoly ring.now divisor.now }
     requires some { 0 < length divisor.now }
-    requires divides { IsTrue (monomial.divides (leading_monomial divisor.now) leading.now.exponents.now) }
-    requires lengths { HaveLength (places ring.now) quotient.old }
-    ensures ok { IfOk result (λ h. left h f.now ≡ run.less_multiple ring.now (left rest.now f.now) leading.now.coefficient (monomial.quotient leading.now.exponents.now (leading_monomial divisor.now)) divisor.now) }
-    ensures rest { IfOk result (λ h. IsRest ring.now f.now h) }
-    ensures quotient { OnOk result (quotient.new ≡ quotient.old ++ term leading.now.coefficient (monomial.quotient leading.now.exponents.now (leading_monomial divisor.now)) ∷ []) }
+    ensures ok { OnOk result (left rest.new f.now ≡ run.less_multiple ring.now (left rest.old f.now) c t.now divisor.now) }
+    ensures rest { OnOk result (IsRest ring.now f.now rest.new) }
     ensures paid { OnOk result ((length divisor.now ≤ fuel.old) × (fuel.new ≡ fuel.old - length divisor.now)) }
-    ensures low { OnOk result (is_too_high (multiple leading.now.coefficient (monomial.quotient leading.now.exponents.now (leading_monomial divisor.now)) divisor.now) ≡ false) }
+    ensures low { OnOk result (is_too_high (multiple c t.now divisor.now) ≡ false) }
     ensures budget { IsErrOf result Stop.Budget → (fuel.old < length divisor.now) × (fuel.new ≡ fuel.old) }
-    ensures degree { IsErrOf result Stop.Degree → (length divisor.now ≤ fuel.old) × (fuel.new ≡ fuel.old - length divisor.now) × (is_too_high (multiple leading.now.coefficient (monomial.quotient leading.now.exponents.now (leading_monomial divisor.now)) divisor.now) ≡ true) }
+    ensures degree { IsErrOf result Stop.Degree → (length divisor.now ≤ fuel.old) × (fuel.new ≡ fuel.old - length divisor.now) × (is_too_high (multiple c t.now divisor.now) ≡ true) }
     ensures memory { fuel.new ≤ fuel.old }
 {
     spend(fuel, divisor.len() as u64)?;
-    let mut room = [0; MAX_PLACES];
-    let t = &mut room[..leading.exponents.len()];
-    quotient_into(leading.exponents, divisor.term(0).exponents, t);
-    quotient.push(leading.coefficient, t)?;
-    let difference = rest.less_multiple(alloc, ring, f, leading.coefficient, t, divisor)?;
-    Ok(difference)
+    rest.subtract(alloc, ring, f, c, t, divisor)?;
+    Ok(())
+}
+
+// Puts a term at the end of the quotient at a place, if there is one.
+fn keep_term(quotients: &mut Vec<Poly>, i: usize, c: Elem, m: &[u16]) -> Result<(), AllocError>
+    requires places { HaveLength (length m.now) (slice_index_or quotients.old.items i []) }
+    ensures { OnOk result (quotients.new.items ≡ slice_set quotients.old.items i (slice_index_or quotients.old.items i [] ++ term c m.now ∷ [])) }
+{
+    if i < quotients.len() {
+        quotients[i].push(c, m)?;
+    }
+    Ok(())
 }

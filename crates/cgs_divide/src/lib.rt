@@ -2,7 +2,7 @@
 //!
 //! `divide` is the run `divided`, step by step. It promises that f is the sum of quotients times divisors plus the
 //! remainder, that no lead of a divisor divides a monomial of the remainder, and that whatever f is below, the remainder
-//! and all multiples are below too.
+//! and all multiples are below too. `remainder` is the same run for callers that throw the quotients away.
 //! Below it stand polynomials (cgs_poly) and the ideals that they generate (cgs_algebra).
 //! Read first `divide`, then `divided` (specs/DivisionRun) and `HasDivided` (specs/Division).
 #![tactic(auto)]
@@ -14,7 +14,7 @@ mod rest;
 mod stop;
 
 pub use autoreduction::autoreduce;
-pub use division::{Division, divide, spend};
+pub use division::{Division, divide, remainder, spend};
 pub use laws::{
     autoreduction_reduces, autoreduction_run_reduces, division_divides, division_examples,
     division_keeps_lead,

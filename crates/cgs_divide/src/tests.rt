@@ -4,7 +4,7 @@ ghost use Rattle.std.specs.Prelude.{◌≡◌, [], IfSome, IfOk};
 ghost use Rattle.cgs_poly.specs.Polynomial.{IsRing, IsPoly, places, ArePolys};
 ghost use Rattle.cgs_algebra.specs.Groebner.{AreMonic};
 
-use crate::{Division, Stop, divide};
+use crate::{Division, Stop, divide, remainder};
 use cgs_field::Modulus;
 use cgs_order::Kind;
 use cgs_poly::{Poly, PolyFault, PolyList, Ring};
@@ -188,6 +188,20 @@ fn agrees(found: &Result<Division, Stop>, want: Result<Parts<'_>, Stop>) -> bool
     }
 }
 
+// The remainder alone agrees with the whole division.
+fn agrees_alone(found: &Result<Poly, Stop>, want: Result<Parts<'_>, Stop>) -> bool {
+    match found {
+        Ok(remainder) => match want {
+            Ok(parts) => has_terms(remainder, parts.0),
+            Err(_) => false,
+        },
+        Err(stop) => match want {
+            Ok(_) => false,
+            Err(wanted) => *stop == wanted,
+        },
+    }
+}
+
 fn check(rt: &HostRuntime, ring: &Ring, row: Row<'_>) -> Result<bool, PolyFault>
     requires valid { IsRing ring.now }
     requires two { places ring.now ≡ 2 }
@@ -196,7 +210,10 @@ fn check(rt: &HostRuntime, ring: &Ring, row: Row<'_>) -> Result<bool, PolyFault>
     let divisors = divisors(rt.alloc(), ring, row.divisors)?;
     let mut units = row.units;
     let found = divide(rt.alloc(), ring, &f, &divisors, &mut units);
-    Ok(agrees(&found, row.found) && units == row.left)
+    let mut units_alone = row.units;
+    let alone = remainder(rt.alloc(), ring, &f, &divisors, &mut units_alone);
+    let agree = agrees(&found, row.found) && agrees_alone(&alone, row.found);
+    Ok(agree && units == row.left && units_alone == row.left)
 }
 
 #[test]

@@ -4,7 +4,7 @@ use Rattle.std.proofs.Math.Nat.{zero-mod}
 use Rattle.std.proofs.lemmas.List.{length-replicate}
 use Rattle.std.proofs.lemmas.Slice.Eq.{slice_eq-Decides}
 use Rattle.cgs_field.proofs.ModularLemmas.{mod_add, mod_mul, mod_opposite, mod_twice}
-use Rattle.cgs_poly.specs.declared.ring.Ring.{Ring}
+use Rattle.cgs_poly.specs.Ring.{Ring}
 use Rattle.cgs_poly.specs.Polynomial.{Term, term, places, total, IsOfRing, IsCanonical, one}
 use Rattle.cgs_poly.specs.Product.{scaled, multiple}
 use Rattle.cgs_poly.proofs.SumLemmas.{Alike, alike_back, total_append, total_scaled}

@@ -4,7 +4,7 @@ use Rattle.std.proofs.Common.{subst, arith}
 use Rattle.std.specs.List.{AllByRecursion}
 use Rattle.cgs_field.specs.Prime.{IsField}
 use Rattle.cgs_field.proofs.PrimeLemmas.{modulus_field}
-use Rattle.cgs_poly.specs.declared.ring.Ring.{Ring}
+use Rattle.cgs_poly.specs.Ring.{Ring}
 use Rattle.cgs_poly.specs.Polynomial.{one, Term, IsRing, IsOfRing, IsCanonical}
 use Rattle.cgs_poly.proofs.CanonicalLemmas.{canonical_of_ring}
 use Rattle.cgs_poly.specs.Product.{multiple}

@@ -3,7 +3,7 @@ use Rattle.std.proofs.Common.{ℕ, ◌≡◌, ◌+◌, ◌-◌, ◌≤◌, true,
 use Rattle.std.specs.Prelude.{slice_get}
 use Rattle.cgs_list.proofs.ListLemmas.{drop_at}
 use Rattle.std.proofs.lemmas.Bool.{le-ltb}
-use Rattle.cgs_poly.specs.declared.ring.Ring.{Ring}
+use Rattle.cgs_poly.specs.Ring.{Ring}
 use Rattle.cgs_poly.specs.Polynomial.{Term, canonical}
 use Rattle.cgs_poly.specs.Product.{all_products}
 use Rattle.cgs_divide.specs.DivisionRun.{Run, divided, is_too_high}

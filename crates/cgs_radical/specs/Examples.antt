@@ -19,30 +19,30 @@ greatest_power = term 1 (0 ∷ 32767 ∷ []) ∷ []
 abbrev pub NothingIsPossible : Type 0
 NothingIsPossible = (emptiness_run seven [] [] 2 ≡ ended false 0) × (emptiness_run seven [] [] 1 ≡ out_of_budget 0)
 
--- a can be 0; 6 units are needed
+-- a can be 0; 4 units are needed
 abbrev pub ZeroIsPossible : Type 0
-ZeroIsPossible = (emptiness_run seven (only_a ∷ []) [] 6 ≡ ended false 0) × (emptiness_run seven (only_a ∷ []) [] 5 ≡ out_of_budget 0)
+ZeroIsPossible = (emptiness_run seven (only_a ∷ []) [] 4 ≡ ended false 0) × (emptiness_run seven (only_a ∷ []) [] 3 ≡ out_of_budget 0)
 
 -- a cannot be 0 and not 0; 3 units are needed
 abbrev pub ZeroAndNotIsEmpty : Type 0
 ZeroAndNotIsEmpty =
     (emptiness_run seven (only_a ∷ []) (only_a ∷ []) 3 ≡ ended true 0) × (emptiness_run seven (only_a ∷ []) (only_a ∷ []) 2 ≡ out_of_budget 0)
 
--- 1 cannot be 0, nor can 0 not be 0: 4 units and 1 are needed
+-- 1 cannot be 0, nor can 0 not be 0: 2 units and 1 are needed
 abbrev pub OneAmongZeroIsEmpty : Type 0
-OneAmongZeroIsEmpty = (emptiness_run seven (one ∷ []) [] 4 ≡ ended true 0) × (emptiness_run seven (one ∷ []) [] 3 ≡ out_of_budget 0)
+OneAmongZeroIsEmpty = (emptiness_run seven (one ∷ []) [] 2 ≡ ended true 0) × (emptiness_run seven (one ∷ []) [] 1 ≡ out_of_budget 0)
 
 abbrev pub ZeroAmongNonzeroIsEmpty : Type 0
 ZeroAmongNonzeroIsEmpty = (emptiness_run seven [] ([] ∷ []) 1 ≡ ended true 0) × (emptiness_run seven [] ([] ∷ []) 0 ≡ out_of_budget 0)
 
--- where a^2 - a is 0, a and a - 1 are not both other than 0: with 8 units their product is divided to 0. For each alone there are points, and 32
--- and 31 units are needed
+-- where a^2 - a is 0, a and a - 1 are not both other than 0: with 8 units their product is divided to 0. For each alone there are points, and 20
+-- units are needed
 abbrev pub ProductIsEmpty : Type 0
 ProductIsEmpty =
     (emptiness_run seven (a_times_a_less_one ∷ []) (only_a ∷ a_less_one ∷ []) 8 ≡ ended true 0)
     × (emptiness_run seven (a_times_a_less_one ∷ []) (only_a ∷ a_less_one ∷ []) 7 ≡ out_of_budget 1)
-    × (emptiness_run seven (a_times_a_less_one ∷ []) (only_a ∷ []) 32 ≡ ended false 0)
-    × (emptiness_run seven (a_times_a_less_one ∷ []) (a_less_one ∷ []) 31 ≡ ended false 0)
+    × (emptiness_run seven (a_times_a_less_one ∷ []) (only_a ∷ []) 20 ≡ ended false 0)
+    × (emptiness_run seven (a_times_a_less_one ∷ []) (a_less_one ∷ []) 20 ≡ ended false 0)
 
 -- y*a^32767 has the degree 32768
 abbrev pub GreatestPowerIsTooHigh : Type 0

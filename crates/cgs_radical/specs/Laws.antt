@@ -1,7 +1,7 @@
 -- The laws of the emptiness run, as facts.
 use Rattle.std.specs.Prelude.{ℕ, ◌≡◌, ◌↔◌, Bool, true, IsTrue, List, [], ◌∷◌, ◌++◌}
 use Rattle.std.specs.List.{AllByRecursion}
-use Rattle.cgs_poly.specs.declared.ring.Ring.{Ring}
+use Rattle.cgs_poly.specs.Ring.{Ring}
 use Rattle.cgs_poly.specs.Polynomial.{one, Term, IsRing, IsCanonical}
 use Rattle.cgs_poly.specs.Product.{all_products}
 use Rattle.cgs_algebra.specs.Combination.{IsMember}

@@ -5,7 +5,7 @@ ghost use Rattle.cgs_poly.specs.Polynomial.{IsRing, IsPoly, ArePolys};
 ghost use Rattle.cgs_algebra.specs.Groebner.{AreMonic};
 ghost use Rattle.cgs_radical.specs.EmptinessRun.{ended, out_of_budget, out_of_degree, product_remainder, products_remainder};
 
-use cgs_divide::{Division, Stop, divide};
+use cgs_divide::{Stop, remainder};
 use cgs_poly::{Poly, PolyList, Ring};
 use std::alloc::Global;
 
@@ -32,8 +32,8 @@ pub(crate) fn product_remainder(
 {
     spend_product(q.len(), n.len(), fuel)?;
     let product = Poly::product(alloc, ring, q, n)?;
-    let Division { remainder, .. } = divide(alloc, ring, &product, basis, fuel)?;
-    Ok(remainder)
+    let rest = remainder(alloc, ring, &product, basis, fuel)?;
+    Ok(rest)
 }
 
 // The remainder of q times each factor in turn by a basis, until it is 0.

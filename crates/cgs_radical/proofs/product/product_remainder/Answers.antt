@@ -28,27 +28,27 @@ returns-in_err-product-clause-degree c = λ e.
     let high = high_unless_low (all_products c.args.q.now c.args.n.now) (c.in_err-product.ensures.degree.0 (ap Err k)) in
     too_high_product c.args.ring.now c.args.basis.now c.args.q.now c.args.n.now c.args.fuel.now c.spend_product.new.fuel paid.0 paid.1 high
 
-pub returns-in_err-remainder-clause-budget : goal.returns-in_err-remainder-clause-budget
-returns-in_err-remainder-clause-budget c = λ e.
+pub returns-in_err-rest-clause-budget : goal.returns-in_err-rest-clause-budget
+returns-in_err-rest-clause-budget c = λ e.
     let paid = paid_cost c.len.result c.len-2.result c.args.q.now c.args.n.now c.args.fuel.now
     c.spend_product.new.fuel c.len.ensures c.len-2.ensures c.in_ok-spend_product.ensures.ok in
     let low = low_not_high (all_products c.args.q.now c.args.n.now) c.in_ok-product.ensures.low in
-    let s : c.in_err-remainder.field-0.0 ≡ stop.Budget =
-    same_stop c.from_residual-in_err-remainder.result c.in_err-remainder.field-0.0 stop.Budget c.from_residual-in_err-remainder.ensures.1 e in
+    let s : c.in_err-rest.field-0.0 ≡ stop.Budget =
+    same_stop c.from_residual-in_err-rest.result c.in_err-rest.field-0.0 stop.Budget c.from_residual-in_err-rest.ensures.1 e in
     divided_product c.args.ring.now c.args.basis.now c.args.q.now c.args.n.now c.args.fuel.now c.spend_product.new.fuel
-    c.in_ok-product.product (division.out_of_budget c.divide.new.fuel) paid.0 paid.1 low c.in_ok-product.ensures.product
-    (c.in_err-remainder.ensures.budget (ap Err s))
+    c.in_ok-product.product (division.out_of_budget c.remainder.new.fuel) paid.0 paid.1 low c.in_ok-product.ensures.product
+    (c.in_err-rest.ensures.budget (ap Err s))
 
-pub returns-in_err-remainder-clause-degree : goal.returns-in_err-remainder-clause-degree
-returns-in_err-remainder-clause-degree c = λ e.
+pub returns-in_err-rest-clause-degree : goal.returns-in_err-rest-clause-degree
+returns-in_err-rest-clause-degree c = λ e.
     let paid = paid_cost c.len.result c.len-2.result c.args.q.now c.args.n.now c.args.fuel.now
     c.spend_product.new.fuel c.len.ensures c.len-2.ensures c.in_ok-spend_product.ensures.ok in
     let low = low_not_high (all_products c.args.q.now c.args.n.now) c.in_ok-product.ensures.low in
-    let s : c.in_err-remainder.field-0.0 ≡ stop.Degree =
-    same_stop c.from_residual-in_err-remainder.result c.in_err-remainder.field-0.0 stop.Degree c.from_residual-in_err-remainder.ensures.1 e in
+    let s : c.in_err-rest.field-0.0 ≡ stop.Degree =
+    same_stop c.from_residual-in_err-rest.result c.in_err-rest.field-0.0 stop.Degree c.from_residual-in_err-rest.ensures.1 e in
     divided_product c.args.ring.now c.args.basis.now c.args.q.now c.args.n.now c.args.fuel.now c.spend_product.new.fuel
-    c.in_ok-product.product (division.out_of_degree c.divide.new.fuel) paid.0 paid.1 low c.in_ok-product.ensures.product
-    (c.in_err-remainder.ensures.degree (ap Err s))
+    c.in_ok-product.product (division.out_of_degree c.remainder.new.fuel) paid.0 paid.1 low c.in_ok-product.ensures.product
+    (c.in_err-rest.ensures.degree (ap Err s))
 
 pub returns-clause-ok : goal.returns-clause-ok
 returns-clause-ok c =
@@ -56,5 +56,5 @@ returns-clause-ok c =
     c.spend_product.new.fuel c.len.ensures c.len-2.ensures c.in_ok-spend_product.ensures.ok in
     let low = low_not_high (all_products c.args.q.now c.args.n.now) c.in_ok-product.ensures.low in
     divided_product c.args.ring.now c.args.basis.now c.args.q.now c.args.n.now c.args.fuel.now c.spend_product.new.fuel c.in_ok-product.product
-    (done c.in_ok-remainder.field-0.remainder c.in_ok-remainder.field-0.quotients c.divide.new.fuel)
-    paid.0 paid.1 low c.in_ok-product.ensures.product c.in_ok-remainder.ensures.ok
+    (done c.in_ok-rest.rest c.in_ok-rest.ensures.ok.quotients c.remainder.new.fuel)
+    paid.0 paid.1 low c.in_ok-product.ensures.product c.in_ok-rest.ensures.ok.ends

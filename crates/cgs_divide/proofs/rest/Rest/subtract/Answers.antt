@@ -10,8 +10,8 @@ use Rattle.cgs_poly.proofs.CanonicalLemmas.{canonical_of_ring, append_of_ring, a
 use Rattle.cgs_divide.specs.DivisionRun as run
 use Rattle.cgs_divide.specs.Rest.{left}
 use Rattle.cgs_divide.proofs.RestLemmas.{low_at, err_known, ok_known, multiple_above, reached_poly, reached_alone}
-use Rattle.cgs_divide.proofs.rest.Rest.less_multiple.Goals as goal
-use Rattle.cgs_divide.proofs.rest.Rest.less_multiple.Goals.{After-term-last, In_ok-front}
+use Rattle.cgs_divide.proofs.rest.Rest.subtract.Goals as goal
+use Rattle.cgs_divide.proofs.rest.Rest.subtract.Goals.{After-term-last, In_ok-front}
 
 -- the last term of the divisor
 abbrev last : After-term-last → Term
@@ -44,12 +44,15 @@ returns-then-is_err-clause-degree c = λ e low.
 pub place_below-end-requires-clause-lengths : goal.place_below-end-requires-clause-lengths
 place_below-end-requires-clause-lengths c = canonical_length c.args.ring.now c.args.f.now c.requires.poly.canonical
 
-pub spliced-requires-clause-second : goal.spliced-requires-clause-second
-spliced-requires-clause-second c = rw c.places.ensures (canonical_length c.args.ring.now c.args.f.now c.requires.poly.canonical)
+pub reach-requires-clause-front : goal.reach-requires-clause-front
+reach-requires-clause-front c = rw c.places.ensures c.requires.rest.lengths
+
+pub reach-requires-clause-lengths : goal.reach-requires-clause-lengths
+reach-requires-clause-lengths c = rw c.places.ensures (canonical_length c.args.ring.now c.args.f.now c.requires.poly.canonical)
 
 pub sub_multiple-requires-clause-first : goal.sub_multiple-requires-clause-first
 sub_multiple-requires-clause-first c =
-    rw c.in_ok-reached.ensures
+    rw c.in_ok-reach.ensures.front
     (reached_poly c.args.ring.now c.args.self.now.front c.args.f.now c.args.self.now.at c.args.self.now.from
     c.place_below-end.result c.place_below-end.ensures.from c.requires.rest.poly)
 
@@ -71,7 +74,7 @@ difference_is : (c : In_ok-front) → c.in_ok-front.front ++ drop c.place_below-
     ≡ run.less_multiple c.args.ring.now (left c.args.self.now c.args.f.now) c.args.c c.args.t.now c.args.divisor.now
 difference_is c =
     ap (λ k. k ++ drop c.place_below-end.result c.args.f.now) (c.in_ok-front.ensures.difference
-    ∙ ap (λ k. canonical c.args.ring.now (k ++ added c)) c.in_ok-reached.ensures)
+    ∙ ap (λ k. canonical c.args.ring.now (k ++ added c)) c.in_ok-reach.ensures.front)
     ∙ reached_alone c.args.ring.now c.args.self.now.front c.args.f.now c.args.self.now.at c.args.self.now.from
     c.place_below-end.result c.place_below-end.ensures.from c.requires.rest.poly
     (added c) (product c.args.t.now c.term-last.result.exponents.now) (ring_positive c.args.ring.now c.requires.ring) (added_of_ring c) (unreached c)
@@ -88,15 +91,19 @@ difference_poly c =
     (append_low (left c.args.self.now c.args.f.now) (added c) c.requires.rest.poly.low
     (low_any c.args.c (c.args.ring.now.modulus - c.args.c) c.args.t.now c.args.divisor.now c.in_ok-front.ensures.low))
 
+left_is : (c : In_ok-front) → drop c.reach.new.self.at c.in_ok-front.front ++ drop c.reach.new.self.from c.args.f.now
+    ≡ run.less_multiple c.args.ring.now (left c.args.self.now c.args.f.now) c.args.c c.args.t.now c.args.divisor.now
+left_is c = rw (c.in_ok-reach.ensures.at, c.in_ok-reach.ensures.from) (difference_is c)
+
 pub returns-clause-ok : goal.returns-clause-ok
-returns-clause-ok c = difference_is (goal.at.returns-clause-ok c).In_ok-front
+returns-clause-ok c = left_is (goal.at.returns-clause-ok c).In_ok-front
 
 pub returns-clause-rest : goal.returns-clause-rest
 returns-clause-rest c =
     let d = (goal.at.returns-clause-rest c).In_ok-front in
     record {
-      poly = subst (λ g. IsPoly c.args.ring.now g) (sym (difference_is d)) (difference_poly d);
+      poly = subst (λ g. IsPoly c.args.ring.now g) (sym (left_is d)) (difference_poly d);
       lengths = canonical_length c.args.ring.now c.in_ok-front.front c.in_ok-front.ensures.poly.canonical;
-      at = omega arith;
-      from = c.place_below-end.ensures.within;
+      at = omega (arith, c.in_ok-reach.ensures.at);
+      from = omega (arith, c.in_ok-reach.ensures.from, c.place_below-end.ensures.within);
     }

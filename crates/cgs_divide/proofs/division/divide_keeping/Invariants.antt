@@ -1,20 +1,20 @@
-use Rattle.std.proofs.Common.{◌≡◌, ◌≤◌, ◌<◌, ℕ, [], length, get_or}
+use Rattle.std.proofs.Common.{◌≤◌, ℕ, [], length, get_or}
 use Rattle.cgs_poly.specs.Polynomial.{places}
 use Rattle.cgs_poly.specs.Draft.{HaveLength}
 use Rattle.cgs_divide.specs.DivisionRun.{divided}
 use Rattle.cgs_divide.specs.Rest.{left, IsRest}
-use Rattle.cgs_divide.proofs.ResumedLemmas.{resumed}
-use Rattle.cgs_divide.proofs.division.divide.Given as goal
+use Rattle.cgs_divide.proofs.ResumedLemmas.{IsResumed}
+use Rattle.cgs_divide.proofs.division.divide_keeping.Given as goal
 
 -- the run is what was found so far, and the run of the terms that are left
 abbrev pub invariant-loop-leading : goal.invariant-loop-leading
 invariant-loop-leading l = record {
-  run : divided l.ring l.divisors l.fn.fuel l.f ≡ resumed l.remainder l.quotients.items (divided l.ring l.divisors l.fuel (left l.rest l.f));
+  run : IsResumed (divided l.ring l.divisors l.fn.fuel l.f) l.remainder (length l.divisors) l.fn.kept l.quotients.items
+      (divided l.ring l.divisors l.fuel (left l.rest l.f));
   rest : IsRest l.ring l.f l.rest;
   remainder : HaveLength (places l.ring) l.remainder;
   units : l.fuel ≤ l.fn.fuel;
-  quotients : length l.quotients.items ≡ length l.divisors;
-  lengths : (i : ℕ) → i < length l.divisors → HaveLength (places l.ring) (get_or l.quotients.items i []);
+  lengths : (i : ℕ) → HaveLength (places l.ring) (get_or l.quotients.items i []);
 }
 
 abbrev pub decreases-loop-leading : goal.decreases-loop-leading

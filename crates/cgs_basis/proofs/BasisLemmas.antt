@@ -2,7 +2,7 @@
 use Rattle.std.proofs.Common.{ℕ, ◌≡◌, List, refl, ap, ◌∙◌}
 use Rattle.std.specs.List.{AllByRecursion}
 use Rattle.cgs_field.proofs.PrimeLemmas.{modulus_field}
-use Rattle.cgs_poly.specs.declared.ring.Ring.{Ring}
+use Rattle.cgs_poly.specs.Ring.{Ring}
 use Rattle.cgs_poly.specs.Polynomial.{Term, IsRing, IsCanonical}
 use Rattle.cgs_algebra.specs.Groebner.{IsReduced, IsAscending}
 use Rattle.cgs_divide.specs.AutoreductionRun.{ListRun, done, out_of_budget, out_of_degree, autoreduction}

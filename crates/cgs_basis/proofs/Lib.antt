@@ -1,4 +1,5 @@
 pub mod RepresentedLemmas
+pub mod TakenLemmas
 pub mod StateLemmas
 pub mod CompletionLemmas
 pub mod BasisLemmas

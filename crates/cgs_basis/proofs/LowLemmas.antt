@@ -1,6 +1,6 @@
 -- A basis run of polynomials as a program keeps them ends with such polynomials.
-use Rattle.std.proofs.Common.{ℕ, zero, suc, ◌≡◌, ◌-◌, inl, inr, Bool, true, false, cond, ltb, List, [], ◌∷◌, length, refl, subst, arith}
-use Rattle.cgs_poly.specs.declared.ring.Ring.{Ring}
+use Rattle.std.proofs.Common.{ℕ, zero, suc, ◌≡◌, ◌-◌, inl, inr, Bool, true, false, cond, ltb, List, [], ◌∷◌, refl, subst, arith}
+use Rattle.cgs_poly.specs.Ring.{Ring}
 use Rattle.cgs_poly.specs.Polynomial.{Term, order_of, IsRing, IsPoly, canonical, ArePolys}
 use Rattle.cgs_poly.specs.Monic.{monic_of}
 use Rattle.cgs_poly.specs.Same.{is_among}
@@ -17,9 +17,10 @@ use Rattle.cgs_divide.proofs.AutoreductionRunLemmas.{went_on}
 use Rattle.cgs_divide.proofs.LowLemmas.{autoreduction_polys}
 use Rattle.cgs_pairs.specs.declared.pair.Pair.{Pair}
 use Rattle.cgs_pairs.specs.PairOrder.{PairQueue}
-use Rattle.cgs_basis.specs.BasisRun.{Completion, appended, with_generator, with_generators, with_remainder, pair_terms, completed_in, start, completion}
-use Rattle.cgs_basis.specs.BasisRun.{basis_run}
-use Rattle.cgs_basis.specs.Completion.{IsPairOf, IsCompletion}
+use Rattle.cgs_pairs.specs.Passed.{is_passed, IsPairOf}
+use Rattle.cgs_basis.specs.BasisRun.{Completion, Pairs, appended, with_generator, with_generators, with_remainder, pair_terms, with_taken, passed_over}
+use Rattle.cgs_basis.specs.BasisRun.{after_least, completed_in, start, completion, basis_run}
+use Rattle.cgs_basis.specs.Completion.{IsCompletion}
 use Rattle.cgs_basis.proofs.RepresentedLemmas.{pair_canonical}
 use Rattle.cgs_basis.proofs.StateLemmas.{appended_completion}
 use Rattle.cgs_basis.proofs.CompletionLemmas.{past_budget, past_degree}
@@ -76,29 +77,60 @@ module _ (ring : Ring) (r : IsRing ring) where
   remainder_held s [] h k = h
   remainder_held s (x ∷ f) h k = monic_held s x f h k
 
-  run_polys : (steps : ℕ) (G : List (List Term)) (pairs : List Pair) (units left : ℕ) (R : List (List Term)) → IsHeld (record { members = G; pairs = pairs })
-      → completed_in steps ring (record { members = G; pairs = pairs }) units ≡ done R left → AreMonic ring R × ArePolys ring R
-  run_polys zero G pairs units left R h e = absurd (cc)
-  run_polys (suc steps) G [] units left R h e = let s : G ≡ R = cc in subst (λ S. AreMonic ring S × ArePolys ring S) s (h.monic, h.polys)
-  run_polys (suc steps) G (q ∷ pairs) units left R h e =
-      let s : Completion = record { members = G; pairs = pairs } in
-      let f : List Term = canonical ring (pair_terms ring G q) in
-      let a = past_budget (ltb units 1) units _ R left e in
-      let low = low_enough (is_too_high (pair_terms ring G q)) (units - 1) _ R left a in
-      let b = past_degree (is_too_high (pair_terms ring G q)) (units - 1) _ R left a in
-      let w = went_on (divided ring G (units - 1) f) (λ remainder left. completed_in steps ring (with_remainder ring s remainder) left) R left b in
-      let k : IsPairOf (length G) q = h.known q (inl refl) in
-      let c = pair_canonical ring r G h.monic q.smaller q.larger (omega (arith, k.apart, k.within)) k.within in
-      let d = divided_divides ring G (ring_positive ring r) h.monic (units - 1) w.units f w.remainder w.quotients c w.divided in
-      let poly : IsPoly ring w.remainder =
-      record { canonical = d.canonical_remainder; low = d.low_remainder (canonical_low ring (pair_terms ring G q) (not_too_high (pair_terms ring G q) low)) } in
-      let rest : IsHeld s = record { order = refl; monic = h.monic; polys = h.polys; known = λ x v. h.known x (inr v) } in
-      let t : Completion = with_remainder ring s w.remainder in
-      run_polys steps t.members t.pairs w.units left R (remainder_held s w.remainder rest poly) w.rest
+  rest_held : (G : List (List Term)) (q : Pair) (pairs : List Pair) → IsHeld (record { members = G; pairs = q ∷ pairs })
+      → IsHeld (record { members = G; pairs = pairs })
+  rest_held G q pairs h = record { order = refl; monic = h.monic; polys = h.polys; known = λ x v. h.known x (inr v) }
+
+  passed_held : (G : List (List Term)) (pairs : List Pair) (taken : List (ℕ × ℕ)) → IsHeld (record { members = G; pairs = pairs })
+      → IsHeld (record { members = G; pairs = (passed_over G pairs taken).waiting })
+  passed_held G [] taken h = h
+  passed_held G (q ∷ pairs) taken h =
+      by_test (is_passed q G taken) (passed_held G pairs (with_taken taken q) (rest_held G q pairs h))
+    where
+      by_test : (b : Bool) → IsHeld (record { members = G; pairs = (passed_over G pairs (with_taken taken q)).waiting })
+          → IsHeld (record { members = G; pairs = (cond b (passed_over G pairs (with_taken taken q)) (record { waiting = q ∷ pairs; taken = taken })).waiting })
+      by_test true k = k
+      by_test false k = h
+
+  -- what ends with a list has monic polynomials of the ring
+  abbrev FindsPolys : Completion → ListRun → List (List Term) → ℕ → Type 0
+  FindsPolys s run R left = IsHeld s → run ≡ done R left → AreMonic ring R × ArePolys ring R
+
+  least_polys : (G : List (List Term)) (w : Pairs) (units left : ℕ) (next : Completion → List (ℕ × ℕ) → ℕ → ListRun) (R : List (List Term))
+      → ((t : Completion) (now : List (ℕ × ℕ)) (n : ℕ) → FindsPolys t (next t now n) R left)
+      → FindsPolys (record { members = G; pairs = w.waiting }) (after_least ring G w units next) R left
+  least_polys G w units left next R ih h e = by_pairs w.waiting h e
+    where
+      by_pairs : (pairs : List Pair) → IsHeld (record { members = G; pairs = pairs })
+          → after_least ring G (record { waiting = pairs; taken = w.taken }) units next ≡ done R left → AreMonic ring R × ArePolys ring R
+      by_pairs [] k e = let s : G ≡ R = cc in subst (λ S. AreMonic ring S × ArePolys ring S) s (k.monic, k.polys)
+      by_pairs (q ∷ pairs) k e =
+          let s : Completion = record { members = G; pairs = pairs } in
+          let f : List Term = canonical ring (pair_terms ring G q) in
+          let a = past_budget (ltb units 1) units _ R left e in
+          let low = low_enough (is_too_high (pair_terms ring G q)) (units - 1) _ R left a in
+          let b = past_degree (is_too_high (pair_terms ring G q)) (units - 1) _ R left a in
+          let v = went_on (divided ring G (units - 1) f) (λ remainder n. next (with_remainder ring s remainder) (with_taken w.taken q) n) R left b in
+          let p : IsPairOf G q = k.known q (inl refl) in
+          let c = pair_canonical ring r G k.monic q.smaller q.larger (omega (arith, p.apart, p.within)) p.within in
+          let d = divided_divides ring G (ring_positive ring r) k.monic (units - 1) v.units f v.remainder v.quotients c v.divided in
+          let poly : IsPoly ring v.remainder =
+          record {
+            canonical = d.canonical_remainder;
+            low = d.low_remainder (canonical_low ring (pair_terms ring G q) (not_too_high (pair_terms ring G q) low));
+          } in
+          ih (with_remainder ring s v.remainder) (with_taken w.taken q) v.units (remainder_held s v.remainder (rest_held G q pairs k) poly) v.rest
+
+  run_polys : (steps : ℕ) (s : Completion) (taken : List (ℕ × ℕ)) (units left : ℕ) (R : List (List Term))
+      → FindsPolys s (completed_in steps ring s taken units) R left
+  run_polys zero s taken units left R h e = absurd (cc)
+  run_polys (suc steps) s taken units left R h e =
+      least_polys s.members (passed_over s.members s.pairs taken) units left (completed_in steps ring) R
+      (λ t now n. run_polys steps t now n left R) (passed_held s.members s.pairs taken h) e
 
   completion_polys : (F G : List (List Term)) (units left : ℕ) → ArePolys ring F → completion ring F units ≡ done G left → AreMonic ring G × ArePolys ring G
   unfolding completion
-  completion_polys F G units left k e = run_polys (suc units) (start ring F).members (start ring F).pairs units left G (started F k) e
+  completion_polys F G units left k e = run_polys (suc units) (start ring F) [] units left G (started F k) e
 
   pub basis_polys : (F R : List (List Term)) (units left : ℕ) → ArePolys ring F → basis_run ring F units ≡ done R left → ArePolys ring R
   unfolding basis_run

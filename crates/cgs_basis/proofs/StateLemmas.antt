@@ -1,11 +1,11 @@
 -- What is known of a completion at each step: monic members of the ideal, and each pair of places waits or has an lcm representation.
 use Rattle.std.proofs.Common.{ℕ, zero, suc, ◌≡◌, ◌+◌, ◌<◌, ◌≤◌, ◌⊎◌, inl, inr, true, false, cond, List, [], ◌∷◌, ◌++◌, length, get_or, drop, add-one, refl, sym}
 use Rattle.std.proofs.Common.{ap, ◌∙◌, subst, arith}
-use Rattle.std.proofs.Math.Seq.{drop-cons}
+use Rattle.std.proofs.Math.Seq.{drop-cons, get_or-append_seam}
 use Rattle.std.proofs.lemmas.Bool.{cases_order}
-use Rattle.std.proofs.lemmas.List.{length-append}
+use Rattle.std.proofs.lemmas.List.{length-append, get_or_append_left}
 use Rattle.cgs_order.specs.declared.block.BlockOrder.{BlockOrder}
-use Rattle.cgs_poly.specs.declared.ring.Ring.{Ring}
+use Rattle.cgs_poly.specs.Ring.{Ring}
 use Rattle.cgs_poly.specs.Polynomial.{Term, order_of, IsPoly, IsCanonical}
 use Rattle.cgs_poly.specs.Product.{leading_coefficient}
 use Rattle.cgs_algebra.specs.Combination.{IsMember}
@@ -13,13 +13,14 @@ use Rattle.cgs_algebra.specs.Groebner.{AreMonic}
 use Rattle.cgs_algebra.specs.SPolynomial.{pair_lcm, HasLcmRepresentation}
 use Rattle.cgs_pairs.specs.declared.pair.Pair.{Pair}
 use Rattle.cgs_pairs.specs.PairOrder.{pair, with_pair, PairQueue, IsWaiting}
+use Rattle.cgs_pairs.specs.Passed.{IsPairOf}
 use Rattle.cgs_pairs.proofs.PairLemmas.{pair_here, pair_kept, pair_from}
 use Rattle.std.specs.List.{AllByRecursion}
 use Rattle.cgs_poly.specs.Monic.{monic_of}
 use Rattle.cgs_poly.specs.Same.{is_among}
 use Rattle.cgs_list.proofs.ListLemmas.{all_push}
 use Rattle.cgs_basis.specs.BasisRun.{Completion, with_pairs, appended, with_generator, with_remainder}
-use Rattle.cgs_basis.specs.Completion.{IsPairOf, IsCompletion}
+use Rattle.cgs_basis.specs.Completion.{IsCompletion}
 use Rattle.cgs_algebra.proofs.GrowthLemmas.{representation_more}
 
 -- the pairs of a new member
@@ -40,14 +41,20 @@ pairs_new order g place i (f ∷ G) pairs (suc k) l =
     let q = pairs_new order g place (suc i) G (with_pair order (pair (pair_lcm f g) place i) pairs) k (omega arith) in
     (q.0, q.1, omega (arith, q.2), q.3)
 
--- they are pairs of places
-pairs_of : (order : BlockOrder) (g : List Term) (place i : ℕ) (G : List (List Term)) (pairs : List Pair) → i + length G ≤ place
-    → ((q : Pair) → IsWaiting q pairs → IsPairOf (suc place) q) → (q : Pair) → IsWaiting q (with_pairs order g place i G pairs) → IsPairOf (suc place) q
-pairs_of order g place i [] pairs l h q k = h q k
-pairs_of order g place i (f ∷ G) pairs l h q k =
-    pairs_of order g place (suc i) G (with_pair order (pair (pair_lcm f g) place i) pairs) (omega arith)
-    (λ x j. elim (pair_from order x (pair (pair_lcm f g) place i) pairs j) as (λ _. IsPairOf (suc place) x) [
-      | inl e ↦ subst (λ y. IsPairOf (suc place) y) (sym e) (record { apart = omega arith; within = omega arith })
+-- they are pairs of the places of a list that has the polynomial at its place
+pairs_of : (order : BlockOrder) (g : List Term) (place i : ℕ) (G : List (List Term)) (pairs : List Pair) (H : List (List Term))
+    → i + length G ≤ place → place < length H → get_or H place [] ≡ g → ((k : ℕ) → k < length G → get_or H (i + k) [] ≡ get_or G k [])
+    → ((q : Pair) → IsWaiting q pairs → IsPairOf H q) → (q : Pair) → IsWaiting q (with_pairs order g place i G pairs) → IsPairOf H q
+pairs_of order g place i [] pairs H l within at same h q k = h q k
+pairs_of order g place i (f ∷ G) pairs H l within at same h q k =
+    let z : i + 0 ≡ i = omega arith in
+    let first : get_or H i [] ≡ f = ap (λ n. get_or H n []) (sym z) ∙ same 0 (omega arith) in
+    let lcm : pair_lcm f g ≡ pair_lcm (get_or H i []) (get_or H place []) =
+    ap (λ m. pair_lcm m g) (sym first) ∙ ap (λ m. pair_lcm (get_or H i []) m) (sym at) in
+    pairs_of order g place (suc i) G (with_pair order (pair (pair_lcm f g) place i) pairs) H (omega arith) within at
+    (λ n b. let e : suc i + n ≡ i + suc n = omega arith in ap (λ m. get_or H m []) e ∙ same (suc n) (omega arith))
+    (λ x j. elim (pair_from order x (pair (pair_lcm f g) place i) pairs j) as (λ _. IsPairOf H x) [
+      | inl e ↦ subst (λ y. IsPairOf H y) (sym e) (record { apart = omega arith; within = within; lcm = lcm })
       | inr w ↦ h x w
     ]) q k
 
@@ -56,7 +63,7 @@ pairs_of order g place i (f ∷ G) pairs l h q k =
 pub record IsSound (ring : Ring) (F G : List (List Term)) (pairs : List Pair) : Type 0 where
   pub monic : AreMonic ring G
   pub inside : AllByRecursion (IsMember ring F) G
-  pub known : (q : Pair) → IsWaiting q pairs → IsPairOf (length G) q
+  pub known : (q : Pair) → IsWaiting q pairs → IsPairOf G q
 
 -- the pair of two places waits, or has an lcm representation
 abbrev pub IsSettledAt : Ring → List (List Term) → List Pair → ℕ → ℕ → Type 0
@@ -91,12 +98,22 @@ module _ (ring : Ring) (F G : List (List Term)) (g : List Term) where
   appended_monic h can one =
       record { canonical = all_push (IsCanonical ring) G g h.canonical can; monic = all_push (λ f. leading_coefficient f ≡ 1) G g h.monic one }
 
-  appended_known : (pairs : List Pair) → ((q : Pair) → IsWaiting q pairs → IsPairOf (length G) q) → (q : Pair)
-      → IsWaiting q (with_pairs (order_of ring) g (length G) 0 G pairs) → IsPairOf (length (G ++ g ∷ [])) q
+  -- a pair of the list is one of the longer list
+  pair_more : (q : Pair) → IsPairOf G q → IsPairOf (G ++ g ∷ []) q
+  pair_more q k = record {
+    apart = k.apart;
+    within = omega (arith, long, k.within);
+    lcm = k.lcm
+        ∙ (ap (λ f. pair_lcm f (get_or G q.larger [])) (sym (get_or_append_left G (g ∷ []) [] q.smaller (omega (arith, k.apart, k.within))))
+        ∙ ap (λ f. pair_lcm (get_or (G ++ g ∷ []) q.smaller []) f) (sym (get_or_append_left G (g ∷ []) [] q.larger k.within)));
+  }
+
+  appended_known : (pairs : List Pair) → ((q : Pair) → IsWaiting q pairs → IsPairOf G q) → (q : Pair)
+      → IsWaiting q (with_pairs (order_of ring) g (length G) 0 G pairs) → IsPairOf (G ++ g ∷ []) q
   appended_known pairs h q w =
-      let s = pairs_of (order_of ring) g (length G) 0 G pairs (omega arith) (λ x j. let k =
-      h x j in record { apart = k.apart; within = omega (arith, k.within) }) q w in
-      record { apart = s.apart; within = omega (arith, long, s.within) }
+      pairs_of (order_of ring) g (length G) 0 G pairs (G ++ g ∷ []) (omega arith) (omega (arith, long)) (get_or-append_seam G g [] [])
+      (λ k l. let z : 0 + k ≡ k = omega arith in ap (λ n. get_or (G ++ g ∷ []) n []) z ∙ get_or_append_left G (g ∷ []) [] k l)
+      (λ x j. pair_more x (h x j)) q w
 
   pub appended_sound : (pairs : List Pair) → IsSound ring F G pairs → IsCanonical ring g → leading_coefficient g ≡ 1 → IsMember ring F g
       → IsSound ring F (G ++ g ∷ []) (with_pairs (order_of ring) g (length G) 0 G pairs)

@@ -1,7 +1,7 @@
 -- Worked runs with the order lex.
 use Rattle.std.specs.Prelude.{ℕ, ◌≡◌, ◌-◌, List, [], ◌∷◌}
 use Rattle.cgs_order.specs.declared.kind.Kind.TheVariants.{Lex}
-use Rattle.cgs_poly.specs.declared.ring.Ring.{Ring}
+use Rattle.cgs_poly.specs.Ring.{Ring}
 use Rattle.cgs_poly.specs.Polynomial.{Term, term}
 use Rattle.cgs_algebra.specs.Examples as plain
 use Rattle.cgs_divide.specs.AutoreductionRun.{done, out_of_budget, out_of_degree}
@@ -60,9 +60,24 @@ only_a = term 1 (0 ∷ 0 ∷ 1 ∷ []) ∷ []
 abbrev pub y_less_one : List Term
 y_less_one = term 1 (1 ∷ 0 ∷ 0 ∷ []) ∷ term 6 (0 ∷ 0 ∷ 0 ∷ []) ∷ []
 
+-- a^2 - 1, where y stands above a
+abbrev pub a_squared_less_one : List Term
+a_squared_less_one = term 1 (0 ∷ 0 ∷ 2 ∷ []) ∷ term 6 (0 ∷ 0 ∷ 0 ∷ []) ∷ []
+
 -- x^20000 and y^20000, of which the lcm has the degree 40000
+abbrev pub high_x : List Term
+high_x = term 1 (20000 ∷ 0 ∷ []) ∷ []
+
+abbrev pub high_y : List Term
+high_y = term 1 (0 ∷ 20000 ∷ []) ∷ []
+
+-- x^20000*y and x*y^20000, of which the lcm has the same degree
 abbrev pub steep : List (List Term)
-steep = (term 1 (20000 ∷ 0 ∷ []) ∷ []) ∷ (term 1 (0 ∷ 20000 ∷ []) ∷ []) ∷ []
+steep = (term 1 (20000 ∷ 1 ∷ []) ∷ []) ∷ (term 1 (1 ∷ 20000 ∷ []) ∷ []) ∷ []
+
+-- a*y, a*x and x*y
+abbrev pub products : List (List Term)
+products = (term 1 (0 ∷ 1 ∷ 1 ∷ []) ∷ []) ∷ (term 1 (1 ∷ 0 ∷ 1 ∷ []) ∷ []) ∷ (term 1 (1 ∷ 1 ∷ 0 ∷ []) ∷ []) ∷ []
 
 -- modulo 32003 in x and y with the parameters a and r
 abbrev pub circles_ring : Ring
@@ -95,39 +110,48 @@ with_centre = term 1 (1 ∷ 0 ∷ 1 ∷ 0 ∷ []) ∷ term 16001 (0 ∷ 0 ∷ 2 
 abbrev pub Needs : Ring → List (List Term) → ℕ → List (List Term) → Type 0
 Needs ring F units R = (basis_run ring F units ≡ done R 0) × (basis_run ring F (units - 1) ≡ out_of_budget 0)
 
--- x^2 + a and x*y + 1 need 26 units; with one unit the run takes their pair and no more
+-- x^2 + a and x*y + 1 need 16 units; with one unit the run takes their pair and no more
 abbrev pub ParametricRuns : Type 0
-ParametricRuns = Needs three generators 26 reduced × (basis_run three generators 1 ≡ out_of_budget 0)
+ParametricRuns = Needs three generators 16 reduced × (basis_run three generators 1 ≡ out_of_budget 0)
 
--- x^2 - 1 and x*y - 1 need 26 units: 22 for the completion, which appends two remainders, and 4 for the autoreduction
+-- x^2 - 1 and x*y - 1 need 16 units: 12 for the completion, which appends two remainders, and 4 for the autoreduction
 abbrev pub PlainRuns : Type 0
 PlainRuns =
-    (completion plain.seven plain.generators 22 ≡ done (plain.x_squared_less_one ∷ plain.xy_less_one ∷ plain.x_less_y ∷ plain.y_squared_less_one ∷ []) 0)
-    × Needs plain.seven plain.generators 26 plain.basis
+    (completion plain.seven plain.generators 12 ≡ done (plain.x_squared_less_one ∷ plain.xy_less_one ∷ plain.x_less_y ∷ plain.y_squared_less_one ∷ []) 0)
+    × Needs plain.seven plain.generators 16 plain.basis
 
--- one polynomial needs as many units as it has terms, and 0 and a double of it change nothing. a and a*x + 6 become 1, a and x stay
+-- one polynomial needs as many units as it has terms, and 0 and a double of it change nothing. So do two whose leads are coprime: their pair is passed.
+-- a*x + 6 and a become 1: their pair costs 1, and its remainder and the last member cost 1 each
 abbrev pub ShortRuns : Type 0
 ShortRuns =
     (basis_run two [] 0 ≡ done [] 0)
     × Needs two (ax_less_one ∷ []) 2 (ax_less_one ∷ [])
     × Needs two (doubled ∷ nothing ∷ ax_less_one ∷ []) 2 (ax_less_one ∷ [])
-    × Needs two (ax_less_one ∷ a ∷ []) 6 (one ∷ [])
-    × Needs two (a ∷ x ∷ []) 3 (a ∷ x ∷ [])
+    × Needs two (ax_less_one ∷ a ∷ []) 3 (one ∷ [])
+    × Needs two (a ∷ x ∷ []) 2 (a ∷ x ∷ [])
 
 -- y stands above the rest
 abbrev pub RunsWithY : Type 0
 RunsWithY =
     Needs with_y (y_less_one ∷ []) 2 (y_less_one ∷ [])
     × Needs with_y (only_a ∷ []) 1 (only_a ∷ [])
-    × Needs with_y (only_a ∷ y_less_one ∷ []) 5 (only_a ∷ y_less_one ∷ [])
+    × Needs with_y (only_a ∷ y_less_one ∷ []) 3 (only_a ∷ y_less_one ∷ [])
+    × Needs with_y (a_squared_less_one ∷ y_less_one ∷ []) 4 (a_squared_less_one ∷ y_less_one ∷ [])
 
--- a pair whose multiples have a degree above the limit ends the run once it has paid its unit
+-- a pair whose multiples have a degree above the limit ends the run once it has paid its unit, unless it is passed
 abbrev pub SteepRuns : Type 0
-SteepRuns = (basis_run plain.seven steep 3 ≡ out_of_degree 2) × (basis_run plain.seven steep 0 ≡ out_of_budget 0)
+SteepRuns =
+    Needs plain.seven (high_x ∷ high_y ∷ []) 2 (high_y ∷ high_x ∷ [])
+    × (basis_run plain.seven steep 3 ≡ out_of_degree 2)
+    × (basis_run plain.seven steep 0 ≡ out_of_budget 0)
 
--- the two circles need 258 units
+-- of three pairs with one lcm the third is passed: the other two, which were taken before, are those of the third place
+abbrev pub ThirdPlaces : Type 0
+ThirdPlaces = Needs three products 5 products
+
+-- the two circles need 107 units
 abbrev pub CircleRuns : Type 0
-CircleRuns = Needs circles_ring (unit_circle ∷ moved_circle ∷ []) 258 (without_x ∷ with_radius ∷ with_centre ∷ unit_circle ∷ [])
+CircleRuns = Needs circles_ring (unit_circle ∷ moved_circle ∷ []) 107 (without_x ∷ with_radius ∷ with_centre ∷ unit_circle ∷ [])
 
 abbrev pub BasisExamples : Type 0
-BasisExamples = ParametricRuns × PlainRuns × ShortRuns × RunsWithY × SteepRuns × CircleRuns
+BasisExamples = ParametricRuns × PlainRuns × ShortRuns × RunsWithY × SteepRuns × ThirdPlaces × CircleRuns

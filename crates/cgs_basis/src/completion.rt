@@ -1,24 +1,25 @@
 //! Completion: Buchberger's algorithm up to a Gröbner basis that need not be reduced.
 
-ghost use Rattle.std.specs.Prelude.{◌≡◌, ◌<◌, ◌≤◌, length, IfOk, OnOk, IsErrOf};
+ghost use Rattle.std.specs.Prelude.{◌≡◌, ◌<◌, ◌≤◌, [], ◌∷◌, length, IfOk, IfSome, IsNone, OnOk, IsErrOf};
 ghost use Rattle.cgs_poly.specs.Polynomial.{IsRing, IsPoly, order_of, ArePolys};
 ghost use Rattle.cgs_poly.specs.Product.{leading_monomial, leading_coefficient};
 ghost use Rattle.cgs_algebra.specs.Groebner.{AreMonic, IsGroebnerBasis};
 ghost use Rattle.cgs_algebra.specs.SPolynomial.{pair_lcm};
 ghost use Rattle.cgs_divide.specs.AutoreductionRun.{done, out_of_budget, out_of_degree};
 ghost use Rattle.cgs_pairs.specs.PairOrder.{pair};
+ghost use Rattle.cgs_pairs.specs.Passed.{IsPairOf};
 ghost use Rattle.cgs_basis.specs.BasisRun.{appended, with_pairs, with_generator, with_remainder, completion};
 ghost use Rattle.cgs_basis.specs.BasisRun as run;
 ghost use Rattle.cgs_basis.specs.Completion.{IsCompletion};
 
-use cgs_divide::{Stop, divide, spend};
+use cgs_divide::{Stop, remainder, spend};
 use cgs_exps::{MAX_PLACES, Powers, lcm_into};
-use cgs_pairs::{Pair, Queue, s_polynomial};
+use cgs_pairs::{Pair, Queue, Taken, passes, s_polynomial};
 use cgs_poly::{Poly, PolyList, Ring, is_among};
 use std::alloc::{AllocError, Global};
 
-/// A Gröbner basis of the ideal of the generators, with them at the front. A pair costs one unit, and the remainder of
-/// its S-polynomial is put at the end. Units and errors are as for `divide`.
+/// A Gröbner basis of the ideal of the generators, with them at the front. A pair that is not passed costs one unit, and
+/// the remainder of its S-polynomial is put at the end. Units and errors are as for `divide`.
 pub fn complete(
     alloc: Global,
     ring: &Ring,
@@ -37,10 +38,12 @@ pub fn complete(
 {
     let mut members = PolyList::new(alloc);
     let mut queue = Queue::new(alloc, ring.order());
+    let mut taken = Taken::new(alloc);
     for i in 0..generators.len() {
         append_generator(alloc, ring, &mut members, &mut queue, generators.get(i))?;
     }
-    while let Some(pair) = queue.take_least() {
+    while let Some(pair) = take_unpassed(ring, &members, &mut queue, &mut taken)? {
+        taken.note(pair.larger, pair.smaller)?;
         spend(fuel, 1)?;
         let s = s_polynomial(
             alloc,
@@ -48,10 +51,33 @@ pub fn complete(
             members.get(pair.smaller),
             members.get(pair.larger),
         )?;
-        let division = divide(alloc, ring, &s, &members, fuel)?;
-        append_remainder(alloc, ring, &mut members, &mut queue, &division.remainder)?;
+        let rest = remainder(alloc, ring, &s, &members, fuel)?;
+        append_remainder(alloc, ring, &mut members, &mut queue, &rest)?;
     }
     Ok(members)
+}
+
+// Takes out the least pair that is not passed, if there is one. The pairs that are passed before it are noted.
+fn take_unpassed(
+    ring: &Ring,
+    members: &PolyList,
+    queue: &mut Queue,
+    taken: &mut Taken,
+) -> Result<Option<Pair>, AllocError>
+    requires ring { IsRing ring.now }
+    requires completion { IsCompletion ring.now members.now queue.old }
+    ensures none { IfOk result (λ least. IsNone least → run.passed_over members.now queue.old.pairs taken.old ≡ record { waiting = []; taken = taken.new }) }
+    ensures some { IfOk result (λ least. IfSome least (λ q. run.passed_over members.now queue.old.pairs taken.old ≡ record { waiting = q ∷ queue.new.pairs; taken = taken.new })) }
+    ensures pair { IfOk result (λ least. IfSome least (λ q. IsPairOf members.now q)) }
+    ensures completion { OnOk result (IsCompletion ring.now members.now queue.new) }
+{
+    while let Some(next) = queue.take_least() {
+        if !passes(&next, members, taken) {
+            return Ok(Some(next));
+        }
+        taken.note(next.larger, next.smaller)?;
+    }
+    Ok(None)
 }
 
 // Puts a generator, made monic, at the end, unless it is 0 or is there.

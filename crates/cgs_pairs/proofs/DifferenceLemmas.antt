@@ -5,7 +5,7 @@ use Rattle.std.specs.Prelude.{Result, IsErrAnd, IsErrOf}
 use Rattle.cgs_field.proofs.PrimeLemmas.{modulus_field}
 use Rattle.cgs_exps.specs.Monomial.{quotient, lcm}
 use Rattle.cgs_exps.proofs.MonomialLemmas.{quotient_length, lcm_length}
-use Rattle.cgs_poly.specs.declared.ring.Ring.{Ring}
+use Rattle.cgs_poly.specs.Ring.{Ring}
 use Rattle.cgs_poly.specs.Polynomial.{Term, places, IsRing, IsOfRing, IsCanonical, HasLowDegrees, canonical}
 use Rattle.cgs_poly.specs.declared.fault.PolyFault.{PolyFault}
 use Rattle.cgs_poly.specs.Product.{multiple, leading_monomial}

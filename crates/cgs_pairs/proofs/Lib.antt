@@ -1,3 +1,5 @@
 pub mod PairLemmas
 pub mod QueueLemmas
 pub mod DifferenceLemmas
+pub mod PassedLemmas
+pub mod TableLemmas

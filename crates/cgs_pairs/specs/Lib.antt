@@ -1,3 +1,5 @@
 pub mod PairOrder
-pub mod Stored
+pub mod Rank
+pub mod Passed
+pub mod Table
 pub mod Examples

@@ -6,7 +6,7 @@ use Rattle.std.specs.List.{AllByRecursion}
 use Rattle.cgs_list.proofs.ListLemmas.{all_append}
 use Rattle.cgs_field.specs.Prime.{IsField}
 use Rattle.cgs_field.proofs.ModularLemmas.{mod_mul}
-use Rattle.cgs_poly.specs.declared.ring.Ring.{Ring}
+use Rattle.cgs_poly.specs.Ring.{Ring}
 use Rattle.cgs_poly.specs.Polynomial.{Term, total, IsCanonical}
 use Rattle.cgs_poly.specs.Parameters.{value_at}
 use Rattle.cgs_algebra.specs.Specialisation.{AllVanish, NoneVanishes}

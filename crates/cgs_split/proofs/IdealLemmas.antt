@@ -7,7 +7,7 @@ use Rattle.std.specs.List.{AllByRecursion}
 use Rattle.cgs_list.proofs.ListLemmas.{all_append, all_weaker, all_by_places, all_at_place}
 use Rattle.cgs_field.specs.Prime.{IsField}
 use Rattle.cgs_field.proofs.ModularLemmas.{mod_mul}
-use Rattle.cgs_poly.specs.declared.ring.Ring.{Ring}
+use Rattle.cgs_poly.specs.Ring.{Ring}
 use Rattle.cgs_poly.specs.Polynomial.{one, Term, total, IsOfRing, IsCanonical}
 use Rattle.cgs_poly.specs.Parameters.{has_no_variables, HasNoVariables, value_at, lc_x, variables_ring, specialised_terms, specialised}
 use Rattle.cgs_poly.proofs.CanonicalLemmas.{canonical_of_ring, is_canonical}

@@ -3,7 +3,7 @@ use Rattle.std.proofs.Common.{ℕ, ◌≡◌, ◌*◌, ◌%◌, ◌<◌, List, [
 use Rattle.std.proofs.Math.Nat.{zero-mod, mod-eq_of_lt, mul-zero}
 use Rattle.cgs_field.specs.Prime.{IsField}
 use Rattle.cgs_field.proofs.ModularLemmas.{mod_mul}
-use Rattle.cgs_poly.specs.declared.ring.Ring.{Ring}
+use Rattle.cgs_poly.specs.Ring.{Ring}
 use Rattle.cgs_poly.specs.Polynomial.{Term, total, IsCanonical}
 use Rattle.cgs_poly.specs.Product.{scaled, leading_coefficient}
 use Rattle.cgs_field.specs.Inverse.{inverse}

@@ -5,7 +5,7 @@ use Rattle.std.specs.List.{AllByRecursion}
 use Rattle.cgs_list.proofs.ListLemmas.{all_weaker, all_by_places}
 use Rattle.cgs_field.specs.Prime.{IsField}
 use Rattle.cgs_field.proofs.PrimeLemmas.{modulus_field}
-use Rattle.cgs_poly.specs.declared.ring.Ring.{Ring}
+use Rattle.cgs_poly.specs.Ring.{Ring}
 use Rattle.cgs_poly.specs.Polynomial.{Term, IsCanonical, one, IsRing}
 use Rattle.cgs_poly.specs.Parameters.{HasNoVariables, value_at, lc_x, variables_ring}
 use Rattle.cgs_poly.proofs.ParameterLemmas.{lc_x_canonical, lc_x_free}

@@ -3,8 +3,7 @@ use Rattle.std.proofs.Common.{ℕ, zero, suc, ◌≡◌, ◌+◌, ◌<◌, Optio
 use Rattle.std.proofs.lemmas.List.{append-nil, map-append}
 use Rattle.std.specs.Prelude.{slice_get}
 use Rattle.std.specs.List.{AllByRecursion}
-use Rattle.cgs_list.proofs.ListLemmas.{all_weaker}
-use Rattle.cgs_poly.specs.declared.ring.Ring.{Ring}
+use Rattle.cgs_poly.specs.Ring.{Ring}
 use Rattle.cgs_poly.specs.Polynomial.{Term, IsRing, IsCanonical}
 use Rattle.cgs_algebra.specs.Specialisation.{IsParametric}
 use Rattle.cgs_entry.specs.declared.entry.Entry.{Entry}
@@ -12,9 +11,9 @@ use Rattle.cgs_entry.specs.Entries.{IsComprehensive}
 use Rattle.cgs_board.specs.Tree.{each_from, preorder_to, preorder, entry_at, entry_of, entries_of, Falls}
 use Rattle.cgs_split.specs.declared.kind.Limits.{Limits}
 use Rattle.cgs_split.specs.Cases.{Case}
-use Rattle.cgs_split.specs.Soundness.{IsBranch, IsSoundChild}
+use Rattle.cgs_split.specs.Soundness.{IsBranch}
 use Rattle.cgs_split.specs.Trees.{IsNode, AreTreesOf, none, tree, root_case, own_entries}
-use Rattle.cgs_split.proofs.TreeLemmas.{node_below, root_valid, tree_comprehensive}
+use Rattle.cgs_split.proofs.TreeLemmas.{node_valid, root_valid, tree_comprehensive}
 
 -- what a function makes of the list of a tree
 
@@ -36,6 +35,11 @@ module _ {J E X Y : Type 0} (node : J → List ℕ → Option E × List J) (f : 
       map-append g (f branch path) (each_from (λ i child. preorder_to node f levels child (path ++ i ∷ [])) 0 (node branch path).1)
       ∙ ap (λ xs. map g (f branch path) ++ xs) (map_each levels path (map_preorder levels) 0 (node branch path).1)
 
+-- the entry of a node, without its path
+pub own_entry : (path : List ℕ) (e : Option Entry) → map (λ found. found.1) (entry_at path e) ≡ own_entries e
+own_entry path None = refl
+own_entry path (Some e) = refl
+
 module _ (ring : Ring) (r : IsRing ring) (node : Case → List ℕ → Option Entry × List Case) (height : Case → List ℕ → ℕ) (falls : Falls node height)
     (each : (branch : Case) (path : List ℕ) → IsBranch ring branch → IsNode ring branch path (own_entries (node branch path).0) (node branch path).1) where
   -- the entry of a branch's node
@@ -43,11 +47,7 @@ module _ (ring : Ring) (r : IsRing ring) (node : Case → List ℕ → Option En
   own branch path = map (λ found. found.1) (entry_of node branch path)
 
   own_is : (branch : Case) (path : List ℕ) → own branch path ≡ own_entries (node branch path).0
-  own_is branch path = by_entry (node branch path).0
-    where
-      by_entry : (e : Option Entry) → map (λ found. found.1) (entry_at path e) ≡ own_entries e
-      by_entry None = refl
-      by_entry (Some e) = refl
+  own_is branch path = own_entry path (node branch path).0
 
   -- the branches from number i on are lower than so many levels
   abbrev AreLower : ℕ → List ℕ → ℕ → List Case → Type 0
@@ -82,9 +82,7 @@ module _ (ring : Ring) (r : IsRing ring) (node : Case → List ℕ → Option En
   each_own branch path ok = subst (λ es. IsNode ring branch path es (node branch path).1) (sym (own_is branch path)) (each branch path ok)
 
   valid_below : (branch : Case) (path : List ℕ) → IsBranch ring branch → AllByRecursion (IsBranch ring) (node branch path).1
-  valid_below branch path ok =
-      all_weaker (IsSoundChild ring branch) (IsBranch ring) (node branch path).1
-      (node_below ring r branch ok path (own_entries (node branch path).0) (node branch path).1 (each branch path ok)) (λ c s. s.valid)
+  valid_below branch path ok = node_valid ring r branch ok path (own_entries (node branch path).0) (node branch path).1 (each branch path ok)
 
   row : (levels : ℕ) → Forest levels → Forest (suc levels)
   row levels ih path i [] ok l = none

@@ -3,7 +3,7 @@ use Rattle.std.proofs.Common.{ℕ, ◌≡◌, ◌+◌, Bool, true, false, cond, 
 use Rattle.std.specs.Prelude.{slice_get}
 use Rattle.std.specs.List.{AllByRecursion}
 use Rattle.cgs_list.proofs.ListLemmas.{all_weaker}
-use Rattle.cgs_poly.specs.declared.ring.Ring.{Ring}
+use Rattle.cgs_poly.specs.Ring.{Ring}
 use Rattle.cgs_poly.specs.Polynomial.{Term, IsRing, IsPoly, ArePolys}
 use Rattle.cgs_poly.specs.Parameters.{IsCondition, has_no_variables, HasNoVariables, lc_x}
 use Rattle.cgs_poly.proofs.ParameterLemmas.{lc_x_poly, lc_x_free}

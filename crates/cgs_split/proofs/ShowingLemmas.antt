@@ -4,7 +4,7 @@ use Rattle.std.specs.Prelude.{IfSome}
 use Rattle.std.specs.List.{AllByRecursion}
 use Rattle.std.proofs.lemmas.Slice.Eq.{slice_eq-Decides}
 use Rattle.cgs_list.proofs.ListLemmas.{all_append}
-use Rattle.cgs_poly.specs.declared.ring.Ring.{Ring}
+use Rattle.cgs_poly.specs.Ring.{Ring}
 use Rattle.cgs_poly.specs.Polynomial.{Term, one}
 use Rattle.cgs_poly.specs.Parameters.{has_no_variables}
 use Rattle.cgs_poly.proofs.SameLemmas.{same_poly_decides}

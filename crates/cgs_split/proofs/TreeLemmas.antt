@@ -5,7 +5,7 @@ use Rattle.std.specs.List.{AllByRecursion}
 use Rattle.cgs_list.proofs.ListLemmas.{all_append, all_weaker}
 use Rattle.cgs_field.specs.Prime.{IsField}
 use Rattle.cgs_field.proofs.PrimeLemmas.{modulus_field}
-use Rattle.cgs_poly.specs.declared.ring.Ring.{Ring}
+use Rattle.cgs_poly.specs.Ring.{Ring}
 use Rattle.cgs_poly.specs.Polynomial.{one, Term, IsCanonical, IsRing}
 use Rattle.cgs_poly.specs.Parameters.{variables_ring, specialised}
 use Rattle.cgs_algebra.specs.Combination.{IsMember}
@@ -75,7 +75,7 @@ module _ (ring : Ring) (r : IsRing ring) where
   node_count a point branch ok path own children (divided k G M basis) = omega (arith, children_partition ring r branch ok G M basis a)
 
   -- the children of a node are sound
-  pub node_below : (branch : Case) → IsBranch ring branch → (path : List ℕ) (own : List Entry) (children : List Case) → IsNode ring branch path own children
+  node_below : (branch : Case) → IsBranch ring branch → (path : List ℕ) (own : List Entry) (children : List Case) → IsNode ring branch path own children
       → AllByRecursion (IsSoundChild ring branch) children
   node_below branch ok path own children (empty h) = tt
   node_below branch ok path own children (solved k tested) = tt
@@ -83,18 +83,23 @@ module _ (ring : Ring) (r : IsRing ring) where
   node_below branch ok path own children (whole k basis tested) = tt
   node_below branch ok path own children (divided k G M basis) = children_sound ring r branch ok G M basis
 
+  -- and branches of the ring
+  pub node_valid : (branch : Case) → IsBranch ring branch → (path : List ℕ) (own : List Entry) (children : List Case) → IsNode ring branch path own children
+      → AllByRecursion (IsBranch ring) children
+  node_valid branch ok path own children n =
+      all_weaker (IsSoundChild ring branch) (IsBranch ring) children (node_below branch ok path own children n) (λ c s. s.valid)
+
   trees_count : (a : List ℕ) → IsPoint ring a → (branches : List Case) (entries : List Entry) → AreTreesOf ring branches entries
       → AllByRecursion (IsBranch ring) branches
       → entries_at ring a entries ≡ branches_at ring a branches
   trees_count a point branches entries none ok = refl
   trees_count a point branches entries (tree branch path children others own below rest n t u) ok =
-      let valid = all_weaker (IsSoundChild ring branch) (IsBranch ring) children (node_below branch ok.0 path own children n) (λ c s. s.valid) in
       omega (
         arith,
         entries_append ring a (own ++ below) rest,
         entries_append ring a own below,
         node_count a point branch ok.0 path own children n,
-        trees_count a point children below t valid,
+        trees_count a point children below t (node_valid branch ok.0 path own children n),
         trees_count a point others rest u ok.1,
       )
 

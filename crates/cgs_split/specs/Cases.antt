@@ -1,6 +1,6 @@
 -- What contracts see of a branch.
 use Rattle.std.specs.Prelude.{List}
-use Rattle.cgs_poly.specs.declared.ring.Ring.{Ring}
+use Rattle.cgs_poly.specs.Ring.{Ring}
 use Rattle.std.specs.List.{AllByRecursion}
 use Rattle.cgs_poly.specs.Polynomial.{Term, IsRing, ArePolys}
 use Rattle.cgs_poly.specs.Parameters.{IsCondition}

@@ -1,7 +1,7 @@
 -- Worked trees, modulo 7 in x with the parameter a under the order lex, and children that no node has.
 use Rattle.std.specs.Prelude.{ℕ, ◌≡◌, false, List, [], ◌∷◌, map}
 use Rattle.cgs_order.specs.declared.kind.Kind.TheVariants.{Lex}
-use Rattle.cgs_poly.specs.declared.ring.Ring.{Ring}
+use Rattle.cgs_poly.specs.Ring.{Ring}
 use Rattle.cgs_poly.specs.Polynomial.{Term, term}
 use Rattle.cgs_entry.specs.declared.entry.Cause.{Cause}
 use Rattle.cgs_entry.specs.declared.entry.Cause.TheVariants.{Budget, Degree, Depth}
@@ -23,27 +23,39 @@ list_of budget depth zero nonzero polys =
 abbrev pub refused : List ℕ → List (List Term) → List (List Term) → Cause → Entry
 refused path zero nonzero cause = record { path = path; conditions = record { zero = zero; nonzero = nonzero }; kind = Refused cause }
 
--- a*x - 1 has the basis a*x - 1 where a is not 0, and 1 where a is 0. The last branch needs 12 units, the root 4.
+-- a*x - 1 has the basis a*x - 1 where a is not 0, and 1 where a is 0. The last branch needs 7 units, the root 4.
 abbrev pub LineExamples : Type 0
 LineExamples =
-    (list_of 12 64 [] [] (line ∷ []) ≡ solved 0 [] (only_a ∷ []) (line ∷ []) ∷ solved 1 (only_a ∷ []) [] (one ∷ []) ∷ [])
-    × (list_of 11 64 [] [] (line ∷ []) ≡ solved 0 [] (only_a ∷ []) (line ∷ []) ∷ refused (1 ∷ []) (only_a ∷ []) [] Budget ∷ [])
+    (list_of 7 64 [] [] (line ∷ []) ≡ solved 0 [] (only_a ∷ []) (line ∷ []) ∷ solved 1 (only_a ∷ []) [] (one ∷ []) ∷ [])
+    × (list_of 6 64 [] [] (line ∷ []) ≡ solved 0 [] (only_a ∷ []) (line ∷ []) ∷ refused (1 ∷ []) (only_a ∷ []) [] Budget ∷ [])
     × (list_of 3 64 [] [] (line ∷ []) ≡ refused [] [] [] Budget ∷ [])
-    × (list_of 12 0 [] [] (line ∷ []) ≡ solved 0 [] (only_a ∷ []) (line ∷ []) ∷ refused (1 ∷ []) (only_a ∷ []) [] Depth ∷ [])
+    × (list_of 7 0 [] [] (line ∷ []) ≡ solved 0 [] (only_a ∷ []) (line ∷ []) ∷ refused (1 ∷ []) (only_a ∷ []) [] Depth ∷ [])
 
 -- where a is given not to be 0 the other branch is empty
 abbrev pub GivenConditionExample : Type 0
 GivenConditionExample = list_of 100 64 [] (only_a ∷ []) (line ∷ []) ≡ solved 0 [] (only_a ∷ []) (line ∷ []) ∷ []
 
+-- a and x have the basis 1 where a is not 0, and x where it is. All branches need 4 units.
+abbrev pub TwoMembersExample : Type 0
+TwoMembersExample =
+    (list_of 4 64 [] [] (only_a ∷ only_x ∷ []) ≡ solved 0 [] (only_a ∷ []) (one ∷ []) ∷ solved 1 (only_a ∷ []) [] (only_x ∷ []) ∷ [])
+    × (list_of 3 64 [] [] (only_a ∷ only_x ∷ []) ≡ refused [] [] [] Budget ∷ [])
+
+-- a^2 - 1
+abbrev pub square_less_one : List Term
+square_less_one = term 1 (0 ∷ 2 ∷ []) ∷ term 6 (0 ∷ 0 ∷ []) ∷ []
+
 -- an entry whose region may be empty
 abbrev pub untested : ℕ → List (List Term) → List (List Term) → List (List Term) → Entry
 untested n zero nonzero basis = record { path = n ∷ []; conditions = record { zero = zero; nonzero = nonzero }; kind = Solved basis false }
 
--- a and x have the basis 1 where a is not 0, and x where it is. That the second region is not empty takes 6 units to find, the root 5.
-abbrev pub TwoMembersExample : Type 0
-TwoMembersExample =
-    (list_of 6 64 [] [] (only_a ∷ only_x ∷ []) ≡ solved 0 [] (only_a ∷ []) (one ∷ []) ∷ solved 1 (only_a ∷ []) [] (only_x ∷ []) ∷ [])
-    × (list_of 5 64 [] [] (only_a ∷ only_x ∷ []) ≡ solved 0 [] (only_a ∷ []) (one ∷ []) ∷ untested 1 (only_a ∷ []) [] (only_x ∷ []) ∷ [])
+-- a^2 - 1 has the basis 1 where it is not 0, and the empty basis where it is. That the regions are not empty takes 7 and 6 units to find, the root 4.
+abbrev pub UnitExample : Type 0
+UnitExample =
+    (list_of 7 64 [] [] (square_less_one ∷ [])
+    ≡ solved 0 [] (square_less_one ∷ []) (one ∷ []) ∷ solved 1 (square_less_one ∷ []) [] [] ∷ [])
+    × (list_of 6 64 [] [] (square_less_one ∷ [])
+    ≡ untested 0 [] (square_less_one ∷ []) (one ∷ []) ∷ solved 1 (square_less_one ∷ []) [] [] ∷ [])
 
 -- nothing has the empty basis everywhere, which takes 2 units to find
 abbrev pub NothingExample : Type 0
@@ -70,16 +82,19 @@ a_times_x = term 1 (1 ∷ 0 ∷ 1 ∷ 0 ∷ []) ∷ []
 abbrev pub b_times_y : List Term
 b_times_y = term 1 (0 ∷ 1 ∷ 0 ∷ 1 ∷ []) ∷ []
 
--- x^20000 and y^20000 without parameters, whose leads have an lcm of degree 40000
+-- two powers without parameters, whose leads have an lcm of degree 40000: the pair of x^20000 and y^20000 is passed, that of x^20000*y and x*y^20000 not
 abbrev pub high : ℕ → ℕ → List Term
 high i j = term 1 (i ∷ j ∷ []) ∷ []
 
+abbrev pub high_list : List (List Term) → List Entry
+high_list polys =
+    map (λ found. found.1)
+    (entries_of node_of height_of (root_case (record plane { parameters = 0 }) (record { budget = 100; depth = 64 }) [] [] polys) [])
+
 abbrev pub HighDegreeExample : Type 0
 HighDegreeExample =
-    map (λ found. found.1)
-    (entries_of node_of height_of (root_case (record plane { parameters = 0 }) (record { budget = 100; depth = 64 }) [] [] (high 20000 0 ∷ high 0 20000 ∷ []))
-    [])
-    ≡ refused [] [] [] Degree ∷ []
+    (high_list (high 20000 0 ∷ high 0 20000 ∷ []) ≡ solved 0 [] [] (high 0 20000 ∷ high 20000 0 ∷ []) ∷ [])
+    × (high_list (high 20000 1 ∷ high 1 20000 ∷ []) ≡ refused [] [] [] Degree ∷ [])
 
 -- the branch of some polynomials under no condition
 abbrev pub free : Ring → List (List Term) → Case

@@ -1,6 +1,6 @@
 -- The children of a branch, each with its conditions (after Kapur, Sun, Wang 2010).
 use Rattle.std.specs.Prelude.{ℕ, ◌+◌, Bool, cond, List, [], ◌∷◌, ◌++◌}
-use Rattle.cgs_poly.specs.declared.ring.Ring.{Ring}
+use Rattle.cgs_poly.specs.Ring.{Ring}
 use Rattle.cgs_poly.specs.Polynomial.{one, Term}
 use Rattle.cgs_algebra.specs.Stability.{parametric_members, other_members}
 use Rattle.cgs_entry.specs.Conditions.{with_member, with_members, is_in_region}

@@ -1,7 +1,7 @@
 -- The nodes of a tree, and what each promises (Weispfenning 1992).
 use Rattle.std.specs.Prelude.{ℕ, ◌≡◌, ◌+◌, Bool, false, cond, Option, Some, None, List, [], ◌∷◌, ◌++◌}
 use Rattle.std.specs.List.{AllByRecursion}
-use Rattle.cgs_poly.specs.declared.ring.Ring.{Ring}
+use Rattle.cgs_poly.specs.Ring.{Ring}
 use Rattle.cgs_poly.specs.Polynomial.{one, Term}
 use Rattle.cgs_algebra.specs.Groebner.{IsGroebnerBasis}
 use Rattle.cgs_point.specs.Points.{IsPoint}

@@ -1,6 +1,6 @@
 //! What holds of all nodes and trees, for the proofs of the crates above. The functions do nothing.
 
-ghost use Rattle.cgs_split.specs.Examples.{ContradictionExample, GivenConditionExample, HighDegreeExample, LineExamples, NothingExample, TwoMembersExample};
+ghost use Rattle.cgs_split.specs.Examples.{ContradictionExample, GivenConditionExample, HighDegreeExample, LineExamples, NothingExample, TwoMembersExample, UnitExample};
 ghost use Rattle.cgs_split.specs.Examples.{MissingCoefficientIsRefused, NotMinimalIsRefused, OldZerosAreRefused, OverlapIsRefused};
 ghost use Rattle.cgs_split.specs.Laws.{EntriesAreOfRing, EntriesShowOne, HeightsFall, ListIsComprehensive, NodeIsSound, NodesAreNodes, TreeIsComprehensive};
 
@@ -46,6 +46,7 @@ pub fn tree_examples()
     ensures line { LineExamples }
     ensures given_condition { GivenConditionExample }
     ensures two_members { TwoMembersExample }
+    ensures unit { UnitExample }
     ensures nothing { NothingExample }
     ensures contradiction { ContradictionExample }
     ensures high_degree { HighDegreeExample }

@@ -1,1 +1,6 @@
 pub mod Listing
+pub mod UniquenessLemmas
+pub mod ExactNodeLemmas
+pub mod ExactTreeLemmas
+pub mod ExampleLemmas
+pub mod ComprehensiveLemmas

@@ -15,6 +15,8 @@ use Rattle.cgs_list.proofs.ListLemmas.{all_weaker}
 use Rattle.cgs_split.proofs.PreorderLemmas.{nodes_comprehensive}
 use Rattle.cgs_split.proofs.NodeRunLemmas.{node_is_node}
 use Rattle.cgs_split.proofs.OfRingLemmas.{entries_are_of_ring}
+use Rattle.cgs_system.specs.ExactList.{IsExactList, IsTested}
+use Rattle.cgs_system.proofs.ExactTreeLemmas.{tested_exact}
 
 -- what follows for a value that was found
 pub found_map : {A E : Type 0} {P Q : A → Type 0} (r : Result A E) → ((x : A) → P x → Q x) → IfOk r P → IfOk r Q
@@ -38,3 +40,11 @@ module _ (problem : Problem) (limits : Limits) (entries : List Entry) (valid : I
   listed_of_ring =
       subst (λ entries. AllByRecursion (IsEntry problem.ring) entries) (sym listed)
       (entries_are_of_ring problem.ring limits problem.zero problem.nonzero problem.polys valid.ring valid.zero valid.nonzero valid.polys)
+
+  pub listed_exact : AllByRecursion IsTested entries → IsExactList problem.ring problem.zero problem.nonzero problem.polys entries
+  listed_exact tested =
+      let ring = problem.ring in
+      let polys = all_weaker (IsPoly ring) (IsCanonical ring) problem.polys valid.polys (λ f p. p.canonical) in
+      let exact = tested_exact ring limits problem.zero problem.nonzero problem.polys valid.ring (conditions_parametric ring problem.zero valid.zero)
+      (conditions_parametric ring problem.nonzero valid.nonzero) polys (subst (λ entries. AllByRecursion IsTested entries) listed tested) in
+      subst (λ entries. IsExactList ring problem.zero problem.nonzero problem.polys entries) (sym listed) exact

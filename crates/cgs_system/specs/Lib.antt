@@ -1,0 +1,3 @@
+pub mod ExactList
+pub mod Laws
+pub mod Examples

@@ -8,6 +8,7 @@ ghost use Rattle.cgs_entry.specs.Entries.{IsComprehensive, IsEntry};
 ghost use Rattle.cgs_split.specs.Laws.{entry_list};
 ghost use Rattle.cgs_split.specs.NodeRun.{node_of};
 ghost use Rattle.cgs_split.specs.Trees.{root_case};
+ghost use Rattle.cgs_system.specs.ExactList.{IsExactList, IsTested};
 
 use crate::solution::{Solution, solution_of};
 use cgs_problem::Problem;
@@ -25,6 +26,7 @@ pub fn solve_alone(
     ensures list { IfOk result (λ solution. solution.entries ≡ entry_list problem.now.ring limits.now problem.now.zero problem.now.nonzero problem.now.polys) }
     ensures history { IfOk result (λ solution. (workers : ℕ) → 0 < workers → IsComplete node_of (root_case problem.now.ring limits.now problem.now.zero problem.now.nonzero problem.now.polys) workers solution.history) }
     ensures comprehensive { IfOk result (λ solution. IsComprehensive problem.now.ring problem.now.zero problem.now.nonzero problem.now.polys solution.entries) }
+    ensures exact { IfOk result (λ solution. AllByRecursion IsTested solution.entries → IsExactList problem.now.ring problem.now.zero problem.now.nonzero problem.now.polys solution.entries) }
     ensures of_ring { IfOk result (λ solution. AllByRecursion (IsEntry problem.now.ring) solution.entries) }
 {
     let root = root_branch(alloc, problem, limits)?;

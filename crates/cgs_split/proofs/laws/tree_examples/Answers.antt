@@ -21,6 +21,10 @@ pub returns-clause-two_members : goal.returns-clause-two_members
 unfolding key compared divided inverse monic_of autoreduction completion basis_run preorder node_of height_of
 returns-clause-two_members c = (refl, refl)
 
+pub returns-clause-unit : goal.returns-clause-unit
+unfolding key compared divided inverse monic_of autoreduction completion basis_run preorder node_of height_of
+returns-clause-unit c = (refl, refl)
+
 pub returns-clause-nothing : goal.returns-clause-nothing
 unfolding key compared divided inverse monic_of autoreduction completion basis_run preorder node_of height_of
 returns-clause-nothing c = (refl, refl)
@@ -31,4 +35,4 @@ returns-clause-contradiction c = refl
 
 pub returns-clause-high_degree : goal.returns-clause-high_degree
 unfolding key compared divided inverse monic_of autoreduction completion basis_run preorder node_of height_of
-returns-clause-high_degree c = refl
+returns-clause-high_degree c = (refl, refl)

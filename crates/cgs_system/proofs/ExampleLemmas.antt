@@ -1,0 +1,39 @@
+-- The list of a*x - 1 is exact since no limit touched it, and others are not since there is one exact list.
+use Rattle.std.proofs.Common.{ℕ, ◌≡◌, List, [], ◌∷◌, map, refl, sym, ap, subst, arith}
+use Rattle.std.specs.List.{AllByRecursion}
+use Rattle.cgs_order.specs.TermOrder.{key, compared}
+use Rattle.cgs_poly.specs.Polynomial.{IsRing, IsCanonical}
+use Rattle.cgs_entry.specs.declared.entry.Entry.{Entry}
+use Rattle.cgs_entry.specs.Examples.{seven, only_a, one, line}
+use Rattle.cgs_split.specs.Examples.{list_of, untested}
+use Rattle.cgs_system.specs.ExactList.{IsTested}
+use Rattle.cgs_system.specs.Examples.{where_a_stands, where_a_vanishes, IsExactForLine, LineListIsExact, GapIsRefused, OtherOrderIsRefused, UntestedIsRefused}
+use Rattle.cgs_system.proofs.UniquenessLemmas.{exact_unique}
+use Rattle.cgs_system.proofs.ExactTreeLemmas.{tested_exact}
+
+seven_ring : IsRing seven
+seven_ring = record { modulus = refl; some = omega arith; variables = omega arith; parameters = omega arith }
+
+line_canonical : IsCanonical seven line
+unfolding key compared
+line_canonical = (omega arith, omega arith, refl, refl, (omega arith, omega arith, refl, tt, tt))
+
+pub line_exact : (budget depth : ℕ) → list_of budget depth [] [] (line ∷ []) ≡ where_a_stands ∷ where_a_vanishes ∷ [] → LineListIsExact
+line_exact budget depth e =
+    let tested : AllByRecursion IsTested (where_a_stands ∷ where_a_vanishes ∷ []) = (refl, (refl, tt)) in
+    subst IsExactForLine e
+    (tested_exact seven (record { budget = budget; depth = depth }) [] [] (line ∷ []) seven_ring tt tt (line_canonical, tt)
+    (subst (λ es. AllByRecursion IsTested es) (sym e) tested))
+
+only_list : LineListIsExact → (entries : List Entry) → IsExactForLine entries → where_a_stands ∷ where_a_vanishes ∷ [] ≡ entries
+only_list h entries k = exact_unique seven [] [] (line ∷ []) (where_a_stands ∷ where_a_vanishes ∷ []) entries seven_ring h k
+
+pub gap_refused : LineListIsExact → GapIsRefused
+gap_refused h k = cc (only_list h (where_a_stands ∷ []) k)
+
+pub other_order_refused : LineListIsExact → OtherOrderIsRefused
+other_order_refused h k = cc (ap (λ (es : List Entry). map (λ (e : Entry). e.path) es) (only_list h (where_a_vanishes ∷ where_a_stands ∷ []) k))
+
+pub untested_refused : LineListIsExact → UntestedIsRefused
+untested_refused h k =
+    cc (ap (λ (es : List Entry). map (λ (e : Entry). e.kind) es) (only_list h (where_a_stands ∷ untested 1 (only_a ∷ []) [] (one ∷ []) ∷ []) k))

@@ -1,0 +1,38 @@
+//! What holds of all exact lists, and a worked one. The functions do nothing.
+
+ghost use Rattle.cgs_system.specs.Examples.{GapIsRefused, LineListIsExact, OtherOrderIsRefused, UntestedIsRefused};
+ghost use Rattle.cgs_system.specs.Laws.{ExactListIsComprehensive, ExactListIsUnique, TestedListIsExact, TestedListsAgree};
+
+use cgs_split::tree_examples;
+
+/// A problem has at most one exact list, since an ideal has at most one reduced Gröbner basis (Cox, Little, O'Shea,
+/// chapter 2, section 7, theorem 5).
+pub fn exact_list_is_unique()
+    ensures { ExactListIsUnique }
+{}
+
+/// The exact list is comprehensive, as is each list within limits.
+pub fn exact_list_is_comprehensive()
+    ensures { ExactListIsComprehensive }
+{}
+
+/// The list of a problem within limits is the exact one, unless an entry is refused or untested.
+pub fn tested_list_is_exact()
+    ensures { TestedListIsExact }
+{}
+
+/// So two lists within different limits are the same, unless an entry of one of them is refused or untested.
+pub fn tested_lists_agree()
+    ensures { TestedListsAgree }
+{}
+
+/// The two entries of a*x - 1 modulo 7, and three lists that are not exact: one of the two, the two the other way round, and the two with
+/// one that is untested.
+pub fn line_list_is_exact()
+    ensures exact { LineListIsExact }
+    ensures gap { GapIsRefused }
+    ensures other_order { OtherOrderIsRefused }
+    ensures untested { UntestedIsRefused }
+{
+    tree_examples();
+}

@@ -18,7 +18,7 @@ mod tests;
 
 pub use all::{ReadFault, Reading, read_all, write_all};
 use cgs_list::ItemList;
-pub use memory::{CalmSource, MemorySink, MemorySource};
+pub use memory::{CalmSource, MemorySink, MemorySource, NullSink};
 pub use sink::Sink;
 pub use source::{Failed, Source};
 pub use streams::{StdSink, StdSource};

@@ -1,6 +1,6 @@
 //! Sources and sinks in memory, which fail where they are told to.
 
-ghost use Rattle.std.specs.Prelude.{◌≡◌, ◌-◌, ◌≤◌, ◌<◌, ◌↔◌, ◌⊎◌, [], length, min, IfOk, IsErr, IsTrue, Some, vec_capacity};
+ghost use Rattle.std.specs.Prelude.{◌≡◌, ◌-◌, ◌≤◌, ◌<◌, ◌↔◌, ◌⊎◌, [], length, min, IfOk, IsErr, IsTrue, None, Ok, Some, vec_capacity};
 ghost use Rattle.std.specs.Io.KnownBytes.{ReadConsumes, WriteAppends};
 ghost use Rattle.cgs_io.specs.Causes.{HasCause};
 ghost use Rattle.cgs_io.specs.Memory.{is_listed, IsNextCall};
@@ -148,5 +148,23 @@ impl Sink for MemorySink {
             return Err(self.calls.fail());
         }
         Ok(count)
+    }
+}
+
+/// Takes everything, keeps nothing, and never fails.
+#[derive(Clone, Copy, Debug, PartialEq, Eq)]
+pub struct NullSink;
+
+impl Sink for NullSink {
+    ghost seen = { λ sink. record { bytes = None; faults = 0 } };
+
+    fn write(&mut self, piece: &[u8]) -> Result<usize, Failed>
+        ensures count { IfOk result (λ n. n ≤ length piece.now) }
+        ensures some { IfOk result (λ n. 0 < length piece.now → 0 < n) }
+        ensures bytes { WriteAppends None None result piece.now }
+        ensures cause { HasCause 0 0 result }
+        ensures all { result ≡ Ok (length piece.now) }
+    {
+        Ok(piece.len())
     }
 }

@@ -1,6 +1,6 @@
 use crate::{
-    CalmSource, Failed, MemorySink, MemorySource, ReadFault, Reading, StdSink, StdSource, read_all,
-    write_all,
+    CalmSource, Failed, MemorySink, MemorySource, NullSink, ReadFault, Reading, StdSink, StdSource,
+    read_all, write_all,
 };
 use std::test::Fail;
 
@@ -57,6 +57,7 @@ fn writes_to_memory_and_to_a_writer(rt: HostRuntime) -> Result<(), Fail> {
         assert_eq!(rt; write_all(&mut sink, text), wanted);
         assert_eq!(rt; sink.written(), written);
     }
+    assert_eq!(rt; write_all(&mut NullSink, text), Ok(()));
     let mut writer = StdSink::new(Vec::new(alloc));
     assert_eq!(rt; write_all(&mut writer, text), Ok(()));
     let written = writer.into_inner();

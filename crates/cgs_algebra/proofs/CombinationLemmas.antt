@@ -2,7 +2,7 @@
 use Rattle.std.proofs.Common.{ℕ, ◌≡◌, ◌*◌, List, [], ◌∷◌, ◌++◌, length, get_or, refl, sym, ap, arith, append_assoc}
 use Rattle.cgs_exps.specs.Monomial.{product}
 use Rattle.cgs_exps.proofs.MonomialLemmas.{product_length}
-use Rattle.cgs_poly.specs.declared.ring.Ring.{Ring}
+use Rattle.cgs_poly.specs.Ring.{Ring}
 use Rattle.cgs_poly.specs.Polynomial.{Term, places, total}
 use Rattle.cgs_poly.specs.Product.{multiple}
 use Rattle.cgs_poly.proofs.SumLemmas.{total_append}

@@ -3,7 +3,7 @@ use Rattle.std.proofs.Common.{ℕ, ◌≡◌, ◌+◌, ◌-◌, ◌*◌, ◌%◌
 use Rattle.std.proofs.Math.Nat.{zero-mod, add-zero, one-mul}
 use Rattle.cgs_exps.specs.Monomial.{product, divides, quotient, lcm, coprime}
 use Rattle.cgs_exps.proofs.MonomialLemmas.{product_comm, quotient_product, quotient_length, lcm_length}
-use Rattle.cgs_poly.specs.declared.ring.Ring.{Ring}
+use Rattle.cgs_poly.specs.Ring.{Ring}
 use Rattle.cgs_poly.specs.Polynomial.{Term, places, order_of, total, IsCanonical}
 use Rattle.cgs_poly.specs.Product.{multiple, all_products, leading_monomial, leading_coefficient}
 use Rattle.cgs_poly.proofs.SumLemmas.{Alike, coefficients_from_alike, total_append}

@@ -5,7 +5,7 @@ use Rattle.std.proofs.lemmas.List.{length-append, take-append-drop, length-repli
 use Rattle.cgs_field.proofs.ModularLemmas.{mod_add, mod_mul, mod_opposite}
 use Rattle.cgs_exps.specs.Monomial.{product, divides, quotient}
 use Rattle.cgs_exps.proofs.MonomialLemmas.{product_comm, one_product, quotient_product, quotient_length}
-use Rattle.cgs_poly.specs.declared.ring.Ring.{Ring}
+use Rattle.cgs_poly.specs.Ring.{Ring}
 use Rattle.cgs_poly.specs.Polynomial.{Term, places, total, IsOfRing, IsCanonical}
 use Rattle.cgs_poly.specs.Product.{multiple, all_products}
 use Rattle.cgs_poly.specs.Parameters.{part_at, strip, without_variables, lead_x, lc_x, value_at}

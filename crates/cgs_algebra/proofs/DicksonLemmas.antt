@@ -3,7 +3,7 @@ use Rattle.std.proofs.Common.{ℕ, suc, zero, ◌≡◌, ◌<◌, Bool, true, fa
 use Rattle.std.specs.List.{AllByRecursion, Contains}
 use Rattle.cgs_list.proofs.ListLemmas.{all_at_place}
 use Rattle.cgs_exps.specs.Monomial.{divides}
-use Rattle.cgs_poly.specs.declared.ring.Ring.{Ring}
+use Rattle.cgs_poly.specs.Ring.{Ring}
 use Rattle.cgs_poly.specs.Polynomial.{Term}
 use Rattle.cgs_poly.specs.Parameters.{has_no_variables, HasNoVariables, lead_x}
 use Rattle.cgs_algebra.specs.Stability.{parametric_members, other_members, SomeLeadXDivides, IsMinimalDicksonBasis}

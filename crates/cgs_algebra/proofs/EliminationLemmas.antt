@@ -10,7 +10,7 @@ use Rattle.cgs_exps.specs.Monomial.{product, divides}
 use Rattle.cgs_exps.proofs.MonomialLemmas.{product_comm, divides_product, divides_zeros, take_divides, one_product}
 use Rattle.cgs_order.specs.TermOrder.{compared}
 use Rattle.cgs_order.proofs.OrderLemmas.{compared_induction}
-use Rattle.cgs_poly.specs.declared.ring.Ring.{Ring}
+use Rattle.cgs_poly.specs.Ring.{Ring}
 use Rattle.cgs_poly.specs.Polynomial.{Term, term, places, order_of, total, StartsBelow, IsCanonical, kept, inserted, canonical}
 use Rattle.cgs_poly.specs.Product.{multiple, leading_monomial, leading_coefficient}
 use Rattle.cgs_poly.specs.Parameters.{has_no_variables, HasNoVariables, value_at}

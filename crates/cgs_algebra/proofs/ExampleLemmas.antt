@@ -2,7 +2,7 @@
 use Rattle.std.proofs.Common.{ℕ, zero, suc, ◌≡◌, ◌<◌, true, IsTrue, List, [], ◌∷◌, length, get_or, refl, arith}
 use Rattle.cgs_exps.specs.Monomial.{divides}
 use Rattle.cgs_order.specs.TermOrder.{key, compared}
-use Rattle.cgs_poly.specs.declared.ring.Ring.{Ring}
+use Rattle.cgs_poly.specs.Ring.{Ring}
 use Rattle.cgs_poly.specs.Polynomial.{Term, IsOfRing, canonical, SameCoefficients}
 use Rattle.cgs_poly.specs.Product.{leading_monomial}
 use Rattle.cgs_poly.proofs.SumLemmas.{Alike, alike_back, alike_trans, alike_same, coefficients_from_alike}

@@ -8,7 +8,7 @@ use Rattle.cgs_field.proofs.ModularLemmas.{mod_add, mod_opposite}
 use Rattle.cgs_exps.specs.Monomial.{product, divides}
 use Rattle.cgs_order.specs.TermOrder.{compared}
 use Rattle.cgs_order.proofs.OrderLemmas.{compared_induction}
-use Rattle.cgs_poly.specs.declared.ring.Ring.{Ring}
+use Rattle.cgs_poly.specs.Ring.{Ring}
 use Rattle.cgs_poly.specs.Polynomial.{Term, term, places, order_of, total, IsOfRing, StartsBelow, IsCanonical, canonical}
 use Rattle.cgs_poly.specs.Product.{multiple, leading_monomial}
 use Rattle.cgs_poly.proofs.SumLemmas.{Alike, alike_same, alike_back, alike_trans, alike_append, total_append}

@@ -7,7 +7,7 @@ use Rattle.std.specs.declared.cmp.Ordering.TheVariants.{Less}
 use Rattle.cgs_list.proofs.ListLemmas.{all_push}
 use Rattle.cgs_exps.specs.Monomial.{product}
 use Rattle.cgs_order.specs.TermOrder.{compared}
-use Rattle.cgs_poly.specs.declared.ring.Ring.{Ring}
+use Rattle.cgs_poly.specs.Ring.{Ring}
 use Rattle.cgs_poly.specs.Polynomial.{Term, order_of, SameCoefficients, IsOfRing}
 use Rattle.cgs_poly.specs.Product.{multiple, leading_monomial}
 use Rattle.cgs_algebra.specs.Combination.{Summand, combined, IsCombination, IsMember}

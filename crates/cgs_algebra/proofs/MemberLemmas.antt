@@ -1,7 +1,7 @@
 -- The members of an ideal: closed under sums, multiples and products, and under the ideals of members.
 use Rattle.std.proofs.Common.{ℕ, ◌≡◌, ◌*◌, ◌%◌, ◌<◌, List, [], ◌∷◌, ◌++◌, length, get_or, replicate, refl, sym, ap, ◌∙◌}
 use Rattle.std.proofs.lemmas.List.{length-replicate, append-nil}
-use Rattle.cgs_poly.specs.declared.ring.Ring.{Ring}
+use Rattle.cgs_poly.specs.Ring.{Ring}
 use Rattle.cgs_poly.specs.Polynomial.{Term, places, total, IsOfRing}
 use Rattle.cgs_poly.specs.Product.{multiple, all_products}
 use Rattle.cgs_poly.proofs.SumLemmas.{Alike, alike_same, alike_trans, alike_append, alike_from_coefficients, coefficients_from_alike}

@@ -7,7 +7,7 @@ use Rattle.std.proofs.lemmas.Bool.{eqb-true, eqb-false, le-leb, and_from}
 use Rattle.cgs_exps.specs.Monomial.{product, divides}
 use Rattle.cgs_exps.proofs.MonomialLemmas.{product_comm, divides_zeros, one_product}
 use Rattle.cgs_order.specs.TermOrder.{compared}
-use Rattle.cgs_poly.specs.declared.ring.Ring.{Ring}
+use Rattle.cgs_poly.specs.Ring.{Ring}
 use Rattle.cgs_poly.specs.Polynomial.{Term, term, order_of, places, total, IsOfRing, IsCanonical, one}
 use Rattle.cgs_poly.specs.Product.{multiple, leading_monomial, leading_coefficient}
 use Rattle.cgs_poly.proofs.OneLemmas.{one_canonical}

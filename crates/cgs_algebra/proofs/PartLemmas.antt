@@ -9,7 +9,7 @@ use Rattle.cgs_exps.specs.Monomial.{product}
 use Rattle.cgs_exps.proofs.MonomialLemmas.{product_length}
 use Rattle.cgs_order.specs.TermOrder.{compared}
 use Rattle.cgs_order.proofs.OrderLemmas.{cmp_equal, cmp_self}
-use Rattle.cgs_poly.specs.declared.ring.Ring.{Ring}
+use Rattle.cgs_poly.specs.Ring.{Ring}
 use Rattle.cgs_poly.specs.Polynomial.{Term, places, order_of, total, IsOfRing, IsCanonical}
 use Rattle.cgs_poly.specs.Parameters.{variables_ring, part_at, strip, without_variables}
 use Rattle.cgs_poly.proofs.CanonicalLemmas.{AllBelow, all_below_canonical, canonical_of_ring}

@@ -3,7 +3,7 @@ use Rattle.std.proofs.Common.{ℕ, zero, suc, ◌≡◌, ◌+◌, ◌*◌, ◌%�
 use Rattle.std.proofs.Math.Nat.{zero-mul}
 use Rattle.cgs_exps.specs.Monomial.{product}
 use Rattle.cgs_exps.proofs.MonomialLemmas.{one_product}
-use Rattle.cgs_poly.specs.declared.ring.Ring.{Ring}
+use Rattle.cgs_poly.specs.Ring.{Ring}
 use Rattle.cgs_poly.specs.Polynomial.{Term, places, total, IsOfRing}
 use Rattle.cgs_poly.specs.Product.{multiple, all_products}
 use Rattle.cgs_poly.specs.Parameters.{power_at, variables_ring, specialised_terms, specialised}

@@ -4,7 +4,7 @@ use Rattle.std.proofs.Math.Nat.{zero-mod, zero-mul, add-zero}
 use Rattle.cgs_field.proofs.ModularLemmas.{mod_add, mod_mul}
 use Rattle.cgs_exps.specs.Monomial.{product, divides, quotient}
 use Rattle.cgs_exps.proofs.MonomialLemmas.{quotient_product, quotient_length}
-use Rattle.cgs_poly.specs.declared.ring.Ring.{Ring}
+use Rattle.cgs_poly.specs.Ring.{Ring}
 use Rattle.cgs_poly.specs.Polynomial.{Term, places, total, IsOfRing, IsCanonical}
 use Rattle.cgs_poly.specs.Product.{multiple}
 use Rattle.cgs_poly.proofs.SumLemmas.{Alike, total_append}

@@ -7,7 +7,7 @@ use Rattle.std.specs.declared.cmp.Ordering.TheVariants.{Less}
 use Rattle.cgs_exps.specs.Monomial.{product, quotient, lcm}
 use Rattle.cgs_exps.proofs.MonomialLemmas.{product_assoc, product_length, lcm_length}
 use Rattle.cgs_order.specs.TermOrder.{compared}
-use Rattle.cgs_poly.specs.declared.ring.Ring.{Ring}
+use Rattle.cgs_poly.specs.Ring.{Ring}
 use Rattle.cgs_poly.specs.Polynomial.{Term, places, order_of, total, indicator}
 use Rattle.cgs_poly.specs.Product.{multiple}
 use Rattle.cgs_poly.proofs.SumLemmas.{Alike, alike_same, alike_trans, alike_append, alike_from_coefficients, total_append}

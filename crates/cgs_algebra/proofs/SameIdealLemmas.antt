@@ -1,6 +1,6 @@
 -- Lists that generate one ideal, and what they share.
 use Rattle.std.proofs.Common.{List, ◌↔◌}
-use Rattle.cgs_poly.specs.declared.ring.Ring.{Ring}
+use Rattle.cgs_poly.specs.Ring.{Ring}
 use Rattle.cgs_poly.specs.Polynomial.{Term}
 use Rattle.cgs_algebra.specs.Groebner.{IsGroebnerBasis, IsMinimal, IsReduced}
 use Rattle.cgs_algebra.specs.Combination.{IsMember, SameIdeal}

@@ -7,7 +7,7 @@ use Rattle.cgs_field.specs.Prime.{IsField}
 use Rattle.cgs_field.proofs.ModularLemmas.{mod_mul}
 use Rattle.cgs_order.specs.TermOrder.{compared}
 use Rattle.cgs_order.proofs.OrderLemmas.{compared_equal, compared_trans, compared_back, compared_not_self}
-use Rattle.cgs_poly.specs.declared.ring.Ring.{Ring}
+use Rattle.cgs_poly.specs.Ring.{Ring}
 use Rattle.cgs_poly.specs.Polynomial.{Term, term, order_of, total, indicator, IsOfRing, IsCanonical}
 use Rattle.cgs_poly.specs.Product.{leading_monomial}
 use Rattle.cgs_poly.specs.Parameters.{power_at, variables_ring, part_at, strip, without_variables, lead_x, lc_x, value_at}

@@ -2,7 +2,7 @@
 use Rattle.std.proofs.Common.{ℕ, ◌<◌, List, [], ◌++◌, sym, ◌∙◌, subst, arith}
 use Rattle.std.proofs.lemmas.List.{append-nil}
 use Rattle.std.specs.List.{AllByRecursion}
-use Rattle.cgs_poly.specs.declared.ring.Ring.{Ring}
+use Rattle.cgs_poly.specs.Ring.{Ring}
 use Rattle.cgs_poly.specs.Polynomial.{Term, IsOfRing, IsCanonical, canonical}
 use Rattle.cgs_poly.specs.Parameters.{variables_ring, specialised}
 use Rattle.cgs_poly.proofs.SumLemmas.{Alike, coefficients_from_alike}

@@ -7,7 +7,7 @@ use Rattle.std.specs.List.{AllByRecursion}
 use Rattle.cgs_field.specs.Prime.{IsField}
 use Rattle.cgs_exps.specs.Monomial.{divides}
 use Rattle.cgs_exps.proofs.MonomialLemmas.{divides_trans, take_divides}
-use Rattle.cgs_poly.specs.declared.ring.Ring.{Ring}
+use Rattle.cgs_poly.specs.Ring.{Ring}
 use Rattle.cgs_poly.specs.Polynomial.{Term, total, IsOfRing, IsCanonical, canonical}
 use Rattle.cgs_poly.specs.Product.{leading_monomial}
 use Rattle.cgs_poly.specs.Parameters.{has_no_variables, HasNoVariables, lead_x, lc_x, value_at, variables_ring, specialised_terms, specialised}

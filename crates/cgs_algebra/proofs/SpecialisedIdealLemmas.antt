@@ -6,7 +6,7 @@ use Rattle.std.proofs.lemmas.Bool.{cases_lt}
 use Rattle.std.proofs.lemmas.List.{length-append, length-replicate, take_at, drop_at, get_or_append_left, get_or-append_right}
 use Rattle.cgs_field.proofs.ModularLemmas.{mod_add, mod_mul}
 use Rattle.cgs_exps.specs.Monomial.{product}
-use Rattle.cgs_poly.specs.declared.ring.Ring.{Ring}
+use Rattle.cgs_poly.specs.Ring.{Ring}
 use Rattle.cgs_poly.specs.Polynomial.{Term, places, total, IsOfRing}
 use Rattle.cgs_poly.specs.Product.{multiple}
 use Rattle.cgs_poly.specs.Parameters.{power_at, variables_ring, specialised}

@@ -9,7 +9,7 @@ use Rattle.cgs_field.specs.Prime.{IsField}
 use Rattle.cgs_exps.specs.Monomial.{divides}
 use Rattle.cgs_order.specs.TermOrder.{compared}
 use Rattle.cgs_order.proofs.OrderLemmas.{compared_induction}
-use Rattle.cgs_poly.specs.declared.ring.Ring.{Ring}
+use Rattle.cgs_poly.specs.Ring.{Ring}
 use Rattle.cgs_poly.specs.Polynomial.{Term, term, places, order_of, total, indicator, IsOfRing, StartsBelow, IsCanonical, canonical}
 use Rattle.cgs_poly.specs.Product.{multiple, leading_monomial, leading_coefficient}
 use Rattle.cgs_poly.specs.Parameters.{lead_x, lc_x, value_at}

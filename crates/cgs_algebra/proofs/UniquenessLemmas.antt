@@ -7,7 +7,7 @@ use Rattle.std.proofs.lemmas.List.{length-replicate}
 use Rattle.cgs_exps.specs.Monomial.{product, divides, quotient}
 use Rattle.cgs_exps.proofs.MonomialLemmas.{quotient_product, quotient_length, divides_trans, divides_both}
 use Rattle.cgs_order.specs.TermOrder.{compared}
-use Rattle.cgs_poly.specs.declared.ring.Ring.{Ring}
+use Rattle.cgs_poly.specs.Ring.{Ring}
 use Rattle.cgs_poly.specs.Polynomial.{Term, places, order_of, total, indicator, IsOfRing, IsCanonical, canonical}
 use Rattle.cgs_poly.specs.Product.{multiple, leading_monomial, leading_coefficient}
 use Rattle.cgs_poly.proofs.SumLemmas.{Alike, only_other, total_append}

@@ -7,7 +7,7 @@ use Rattle.cgs_field.proofs.ModularLemmas.{mod_add, mod_mul}
 use Rattle.cgs_exps.specs.Monomial.{product}
 use Rattle.cgs_exps.proofs.MonomialLemmas.{product_comm, one_product}
 use Rattle.cgs_order.specs.TermOrder.{compared}
-use Rattle.cgs_poly.specs.declared.ring.Ring.{Ring}
+use Rattle.cgs_poly.specs.Ring.{Ring}
 use Rattle.cgs_poly.specs.Polynomial.{Term, places, order_of, total, IsOfRing, IsCanonical}
 use Rattle.cgs_poly.specs.Product.{multiple}
 use Rattle.cgs_poly.specs.Parameters.{HasNoVariables, power_at, variables_ring, lead_x, value_at}

@@ -7,7 +7,7 @@ use Rattle.std.specs.Ordering.{nat_cmp, ordering_then}
 use Rattle.std.specs.Cmp.Lexicographic.{slice_cmp}
 use Rattle.cgs_order.specs.TermOrder.{block_key, key, compared}
 use Rattle.cgs_order.proofs.OrderLemmas.{cmp_self, block_length, compared_equal}
-use Rattle.cgs_poly.specs.declared.ring.Ring.{Ring}
+use Rattle.cgs_poly.specs.Ring.{Ring}
 use Rattle.cgs_poly.specs.Polynomial.{places, order_of}
 use Rattle.cgs_poly.specs.Parameters.{variables_ring}
 use Rattle.cgs_poly.proofs.SpecialisedLemmas.{variables_length}

@@ -2,7 +2,7 @@
 use Rattle.std.proofs.Common.{ℕ, ◌≡◌, ◌+◌, ◌*◌, List, [], ◌∷◌, ◌++◌, ap, ◌∙◌, sym, refl, arith, length}
 use Rattle.std.proofs.Math.Nat.{mul-add, mul_left_comm}
 use Rattle.cgs_exps.specs.Monomial.{product}
-use Rattle.cgs_poly.specs.declared.ring.Ring.{Ring}
+use Rattle.cgs_poly.specs.Ring.{Ring}
 use Rattle.cgs_poly.specs.Polynomial.{Term, places, total, IsOfRing}
 use Rattle.cgs_poly.specs.Product.{multiple, all_products}
 use Rattle.cgs_poly.proofs.SumLemmas.{total_append}

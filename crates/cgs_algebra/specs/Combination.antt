@@ -1,6 +1,6 @@
 -- Combinations of a list of polynomials, and the ideal that it generates (Cox, Little, O'Shea, chapter 1, section 4).
 use Rattle.std.specs.Prelude.{ℕ, ◌≡◌, ◌<◌, List, [], ◌∷◌, ◌++◌, length, slice_index_or}
-use Rattle.cgs_poly.specs.declared.ring.Ring.{Ring}
+use Rattle.cgs_poly.specs.Ring.{Ring}
 use Rattle.cgs_poly.specs.Polynomial.{Term, places, SameCoefficients}
 use Rattle.cgs_poly.specs.Product.{multiple}
 

@@ -2,7 +2,7 @@
 use Rattle.std.specs.Prelude.{◌≡◌, List, [], ◌∷◌, refl}
 use Rattle.cgs_order.specs.TermOrder.{key, compared}
 use Rattle.cgs_order.specs.declared.kind.Kind.TheVariants.{Lex}
-use Rattle.cgs_poly.specs.declared.ring.Ring.{Ring}
+use Rattle.cgs_poly.specs.Ring.{Ring}
 use Rattle.cgs_poly.specs.Polynomial.{Term, term, canonical}
 use Rattle.cgs_algebra.specs.Combination.{summand, combined}
 use Rattle.cgs_algebra.specs.Groebner.{IsGroebnerBasis, IsReduced, IsAscending}

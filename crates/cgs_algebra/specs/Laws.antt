@@ -2,7 +2,7 @@
 use Rattle.std.specs.Prelude.{ℕ, ◌≡◌, ◌<◌, ◌↔◌, ◌⊎◌, List, [], ◌∷◌, ◌++◌, length, slice_index_or, Contains, IsTrue}
 use Rattle.std.specs.List.{AllByRecursion}
 use Rattle.cgs_exps.specs.Monomial.{divides, coprime}
-use Rattle.cgs_poly.specs.declared.ring.Ring.{Ring}
+use Rattle.cgs_poly.specs.Ring.{Ring}
 use Rattle.cgs_poly.specs.Polynomial.{Term, places, IsOfRing, StartsBelow, IsCanonical, canonical, one}
 use Rattle.cgs_poly.specs.Product.{multiple, all_products, leading_coefficient}
 use Rattle.cgs_algebra.specs.Combination.{IsMember, SameIdeal}

@@ -1,7 +1,7 @@
 -- Polynomials and ideals at a point of the parameters (Weispfenning 1992; Kapur, Sun, Wang 2010).
 use Rattle.std.specs.Prelude.{ℕ, ◌≡◌, ◌<◌, List, map}
 use Rattle.std.specs.List.{AllByRecursion}
-use Rattle.cgs_poly.specs.declared.ring.Ring.{Ring}
+use Rattle.cgs_poly.specs.Ring.{Ring}
 use Rattle.cgs_poly.specs.Polynomial.{Term, IsOfRing, IsCanonical, SameCoefficients}
 use Rattle.cgs_poly.specs.Parameters.{HasNoVariables, value_at, variables_ring, specialised}
 use Rattle.cgs_algebra.specs.Combination.{IsMember}

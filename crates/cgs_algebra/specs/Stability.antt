@@ -3,7 +3,7 @@ use Rattle.std.specs.Prelude.{ℕ, ◌≡◌, ◌<◌, cond, IsTrue, List, [], �
 use Rattle.std.specs.List.{AllByRecursion}
 use Rattle.cgs_field.specs.Prime.{IsField, IsModulus}
 use Rattle.cgs_exps.specs.Monomial.{divides}
-use Rattle.cgs_poly.specs.declared.ring.Ring.{Ring}
+use Rattle.cgs_poly.specs.Ring.{Ring}
 use Rattle.cgs_poly.specs.Polynomial.{Term, IsCanonical}
 use Rattle.cgs_poly.specs.Parameters.{has_no_variables, lead_x, lc_x, value_at, variables_ring}
 use Rattle.cgs_algebra.specs.Combination.{IsMember, SameIdeal}

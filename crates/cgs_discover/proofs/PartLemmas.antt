@@ -8,7 +8,7 @@ use Rattle.std.proofs.lemmas.List.Sums.{sum_by-cons}
 use Rattle.cgs_list.proofs.ListLemmas.{all_push, all_weaker}
 use Rattle.cgs_exps.specs.Monomial.{degree, product}
 use Rattle.cgs_exps.proofs.MonomialLemmas.{one_product}
-use Rattle.cgs_poly.specs.declared.ring.Ring.{Ring}
+use Rattle.cgs_poly.specs.Ring.{Ring}
 use Rattle.cgs_poly.specs.Polynomial.{Term, term, places, IsRing, IsOfRing, IsPoly, HasLowDegrees, canonical}
 use Rattle.cgs_poly.specs.Product.{multiple}
 use Rattle.cgs_poly.specs.Parameters.{HasNoVariables, IsCondition}

@@ -7,7 +7,7 @@ use Rattle.std.specs.List.{AllByRecursion}
 use Rattle.cgs_field.specs.Prime.{IsField}
 use Rattle.cgs_field.proofs.PrimeLemmas.{modulus_field}
 use Rattle.cgs_field.proofs.ModularLemmas.{mod_add}
-use Rattle.cgs_poly.specs.declared.ring.Ring.{Ring}
+use Rattle.cgs_poly.specs.Ring.{Ring}
 use Rattle.cgs_poly.specs.Polynomial.{Term, places, total, one, IsRing, IsOfRing, IsCanonical, IsPoly}
 use Rattle.cgs_poly.specs.Parameters.{power_at, variables_ring, specialised}
 use Rattle.cgs_poly.proofs.RingLemmas.{ring_positive}

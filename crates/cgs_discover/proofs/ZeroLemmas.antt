@@ -3,7 +3,7 @@ use Rattle.std.proofs.Common.{ℕ, ◌≡◌, ◌*◌, ◌%◌, ◌<◌, List, [
 use Rattle.std.proofs.Math.Nat.{zero-mod, mul-zero}
 use Rattle.std.specs.List.{AllByRecursion}
 use Rattle.cgs_list.proofs.ListLemmas.{all_at_place}
-use Rattle.cgs_poly.specs.declared.ring.Ring.{Ring}
+use Rattle.cgs_poly.specs.Ring.{Ring}
 use Rattle.cgs_poly.specs.Polynomial.{Term, places, IsOfRing}
 use Rattle.cgs_poly.specs.Product.{multiple}
 use Rattle.cgs_poly.specs.Parameters.{power_at}

@@ -1,7 +1,7 @@
 -- What a refutation shows.
 use Rattle.std.specs.Prelude.{ℕ, ◌≡◌, ◌%◌, Some, List}
 use Rattle.std.specs.List.{AllByRecursion}
-use Rattle.cgs_poly.specs.declared.ring.Ring.{Ring}
+use Rattle.cgs_poly.specs.Ring.{Ring}
 use Rattle.cgs_poly.specs.Polynomial.{Term, total, one}
 use Rattle.cgs_poly.specs.Parameters.{power_at, variables_ring, specialised}
 use Rattle.cgs_algebra.specs.Combination.{IsMember}

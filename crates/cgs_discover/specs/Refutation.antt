@@ -2,7 +2,7 @@
 -- chapter 6, section 4), and the problem with the thesis among its polynomials.
 use Rattle.std.specs.Prelude.{ℕ, ◌+◌, ◌-◌, Option, None, List, [], ◌∷◌, ◌++◌, map, replicate, codes}
 use Rattle.std.specs.Option.{option_map}
-use Rattle.cgs_poly.specs.declared.ring.Ring.{Ring}
+use Rattle.cgs_poly.specs.Ring.{Ring}
 use Rattle.cgs_poly.specs.Polynomial.{Term, term, places, canonical}
 use Rattle.cgs_poly.specs.Product.{multiple}
 use Rattle.cgs_poly.specs.Recast.{recast}

@@ -4,7 +4,7 @@ use Rattle.std.specs.List.{AllByRecursion}
 use Rattle.std.proofs.Math.Nat.{zero-mod, mul-zero}
 use Rattle.cgs_list.proofs.ListLemmas.{all_parts, all_push}
 use Rattle.cgs_field.proofs.ModularLemmas.{mod_mul}
-use Rattle.cgs_poly.specs.declared.ring.Ring.{Ring}
+use Rattle.cgs_poly.specs.Ring.{Ring}
 use Rattle.cgs_poly.specs.Polynomial.{Term, total, IsRing, IsCanonical}
 use Rattle.cgs_poly.specs.Product.{scaled, leading_coefficient}
 use Rattle.cgs_poly.specs.Parameters.{HasNoVariables, IsCondition, power_at, value_at}

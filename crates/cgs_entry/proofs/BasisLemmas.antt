@@ -1,6 +1,6 @@
 -- What holds of the basis of an entry.
 use Rattle.std.proofs.Common.{ℕ, ◌≡◌, false, List}
-use Rattle.cgs_poly.specs.declared.ring.Ring.{Ring}
+use Rattle.cgs_poly.specs.Ring.{Ring}
 use Rattle.cgs_poly.specs.Polynomial.{Term, ArePolys}
 use Rattle.cgs_point.specs.Points.{IsPoint}
 use Rattle.cgs_entry.specs.declared.entry.Entry.{Entry}

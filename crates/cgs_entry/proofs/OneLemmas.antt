@@ -4,7 +4,7 @@ use Rattle.std.proofs.Math.Nat.{add-zero, one-mul, mod-eq_of_lt}
 use Rattle.std.proofs.lemmas.List.{length-replicate, take-replicate, drop-replicate}
 use Rattle.cgs_exps.specs.Monomial.{divides}
 use Rattle.cgs_order.proofs.OrderLemmas.{cmp_self}
-use Rattle.cgs_poly.specs.declared.ring.Ring.{Ring}
+use Rattle.cgs_poly.specs.Ring.{Ring}
 use Rattle.cgs_poly.specs.Polynomial.{Term, places, total, one}
 use Rattle.cgs_poly.specs.Product.{leading_monomial}
 use Rattle.cgs_poly.specs.Parameters.{power_at, value_at, variables_ring, without_variables, lc_x, specialised}

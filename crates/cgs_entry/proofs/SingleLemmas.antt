@@ -1,7 +1,7 @@
 -- A polynomial that is not 0 is a minimal Gröbner basis of its own ideal.
 use Rattle.std.proofs.Common.{◌≡◌, List, [], ◌∷◌, subst, IsTrue, arith}
 use Rattle.cgs_exps.specs.Monomial.{divides}
-use Rattle.cgs_poly.specs.declared.ring.Ring.{Ring}
+use Rattle.cgs_poly.specs.Ring.{Ring}
 use Rattle.cgs_poly.specs.Polynomial.{Term, IsRing, IsCanonical}
 use Rattle.cgs_poly.specs.Product.{leading_monomial, leading_coefficient}
 use Rattle.cgs_poly.specs.Monic.{monic_of}

@@ -1,7 +1,7 @@
 -- The bases of entries, and those that show whether 1 is in the ideal at the points where they serve.
 use Rattle.std.specs.Prelude.{◌≡◌, ◌⊎◌, false, List, [], ◌∷◌}
 use Rattle.std.specs.List.{AllByRecursion}
-use Rattle.cgs_poly.specs.declared.ring.Ring.{Ring}
+use Rattle.cgs_poly.specs.Ring.{Ring}
 use Rattle.cgs_poly.specs.Polynomial.{Term, one}
 use Rattle.cgs_poly.specs.Parameters.{has_no_variables}
 use Rattle.cgs_entry.specs.declared.entry.Entry.{Entry}

@@ -1,7 +1,7 @@
 -- The entries of a comprehensive Gröbner system, and when a list of them is one (Weispfenning 1992; Kapur, Sun, Wang 2010).
 use Rattle.std.specs.Prelude.{ℕ, ◌≡◌, Bool, true, false, cond, List, map, count_by}
 use Rattle.std.specs.List.{AllByRecursion}
-use Rattle.cgs_poly.specs.declared.ring.Ring.{Ring}
+use Rattle.cgs_poly.specs.Ring.{Ring}
 use Rattle.cgs_poly.specs.Polynomial.{Term, ArePolys}
 use Rattle.cgs_poly.specs.Parameters.{lc_x, variables_ring, IsCondition}
 use Rattle.cgs_algebra.specs.Groebner.{IsMinimal}

@@ -1,7 +1,7 @@
 -- Worked examples: the entries of a*x - 1 modulo 7, in x with the parameter a, and lists that are none.
 use Rattle.std.specs.Prelude.{ℕ, true, List, [], ◌∷◌}
 use Rattle.cgs_order.specs.declared.kind.Kind.TheVariants.{Lex}
-use Rattle.cgs_poly.specs.declared.ring.Ring.{Ring}
+use Rattle.cgs_poly.specs.Ring.{Ring}
 use Rattle.cgs_poly.specs.Polynomial.{Term, term}
 use Rattle.cgs_entry.specs.declared.entry.Entry.{Entry}
 use Rattle.cgs_entry.specs.declared.entry.EntryKind.TheVariants.{Solved}

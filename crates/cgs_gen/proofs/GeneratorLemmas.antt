@@ -10,7 +10,7 @@ use Rattle.std.proofs.lemmas.List.Folds.{sum_by-replicate}
 use Rattle.std.proofs.lemmas.List.Sums.{sum_by-cons}
 use Rattle.std.proofs.lemmas.Map.Made.{IsDistinct-from_count}
 use Rattle.cgs_exps.specs.Monomial.{degree}
-use Rattle.cgs_poly.specs.declared.ring.Ring.{Ring}
+use Rattle.cgs_poly.specs.Ring.{Ring}
 use Rattle.cgs_poly.specs.Polynomial.{Term, IsRing, IsPoly, ArePolys, term, places}
 use Rattle.cgs_problem.specs.declared.problem.Problem.{Problem}
 use Rattle.cgs_problem.specs.Problems.{IsProblem}

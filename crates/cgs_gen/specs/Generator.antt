@@ -1,7 +1,7 @@
 -- The problem that a number generates, by a linear congruential generator (Knuth, The Art of Computer Programming, section 3.2.1).
 use Rattle.std.specs.Prelude.{ℕ, ◌≡◌, ◌+◌, ◌*◌, ◌/◌, ◌%◌, ◌==◌, cond, zero, suc, None, List, [], ◌∷◌, ◌++◌, replicate, slice_set}
 use Rattle.cgs_order.specs.declared.kind.Kind.TheVariants.{Lex}
-use Rattle.cgs_poly.specs.declared.ring.Ring.{Ring}
+use Rattle.cgs_poly.specs.Ring.{Ring}
 use Rattle.cgs_poly.specs.Polynomial.{Term, term, canonical}
 use Rattle.cgs_problem.specs.declared.problem.Problem.{Problem}
 

@@ -3,7 +3,7 @@ use Rattle.std.proofs.Common.{ℕ, ◌≡◌, ◌%◌, ◌<◌, IsTrue, List, []
 use Rattle.std.proofs.lemmas.List.{length-map, get_or-map}
 use Rattle.cgs_field.specs.Inverse.{inverse}
 use Rattle.cgs_exps.specs.Monomial.{divides}
-use Rattle.cgs_poly.specs.declared.ring.Ring.{Ring}
+use Rattle.cgs_poly.specs.Ring.{Ring}
 use Rattle.cgs_poly.specs.Polynomial.{Term, IsRing, IsCanonical}
 use Rattle.cgs_poly.specs.Product.{leading_monomial, leading_coefficient}
 use Rattle.cgs_poly.specs.Parameters.{variables_ring}

@@ -1,6 +1,6 @@
 -- What locating a point tells, and more so in a comprehensive list.
 use Rattle.std.specs.Prelude.{ℕ, ◌≡◌, ◌<◌, ◌↔◌, false, Some, None, List, slice_get}
-use Rattle.cgs_poly.specs.declared.ring.Ring.{Ring}
+use Rattle.cgs_poly.specs.Ring.{Ring}
 use Rattle.cgs_poly.specs.Polynomial.{Term, IsRing}
 use Rattle.cgs_poly.specs.Parameters.{variables_ring}
 use Rattle.cgs_algebra.specs.Groebner.{AreMonic, IsMinimal}

@@ -1,6 +1,6 @@
 -- The entry of a list that holds a point, with its basis there.
 use Rattle.std.specs.Prelude.{ℕ, ◌+◌, cond, Option, Some, None, List, [], ◌∷◌, map}
-use Rattle.cgs_poly.specs.declared.ring.Ring.{Ring}
+use Rattle.cgs_poly.specs.Ring.{Ring}
 use Rattle.cgs_poly.specs.Polynomial.{Term}
 use Rattle.cgs_poly.specs.Parameters.{variables_ring, specialised}
 use Rattle.cgs_poly.specs.Monic.{monic_of}

@@ -3,7 +3,7 @@ use Rattle.std.proofs.Common.{ℕ, ◌≡◌, ◌-◌, ◌*◌, ◌%◌, ◌<◌
 use Rattle.std.proofs.lemmas.Bool.{eq-eqb, ne_eqb}
 use Rattle.std.proofs.lemmas.List.Sums.{sum_by-take-le}
 use Rattle.std.specs.Prelude.{slice_get}
-use Rattle.cgs_poly.specs.declared.ring.Ring.{Ring}
+use Rattle.cgs_poly.specs.Ring.{Ring}
 use Rattle.cgs_poly.specs.Polynomial.{Term, term, IsRing, IsOfRing, IsPoly, HasLowDegrees, canonical}
 use Rattle.cgs_poly.specs.Parameters.{power_at, value_at, variables_ring, specialised_terms, specialised}
 use Rattle.cgs_poly.proofs.CanonicalLemmas.{canonical_append, canonical_poly, canonical_of_ring}

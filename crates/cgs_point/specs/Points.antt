@@ -1,7 +1,7 @@
 -- Points of the parameter space.
 use Rattle.std.specs.Prelude.{ℕ, ◌≡◌, ◌%◌, ◌<◌, List, length, map}
 use Rattle.std.specs.List.{AllByRecursion}
-use Rattle.cgs_poly.specs.declared.ring.Ring.{Ring}
+use Rattle.cgs_poly.specs.Ring.{Ring}
 
 -- each number reduced by the modulus
 abbrev pub reduced_modulo : ℕ → List ℕ → List ℕ

@@ -1,7 +1,7 @@
 -- Conditions are polynomials of their ring.
 use Rattle.std.proofs.Common.{List, [], ◌∷◌}
 use Rattle.std.specs.List.{AllByRecursion}
-use Rattle.cgs_poly.specs.declared.ring.Ring.{Ring}
+use Rattle.cgs_poly.specs.Ring.{Ring}
 use Rattle.cgs_poly.specs.Polynomial.{Term, ArePolys}
 use Rattle.cgs_poly.specs.Parameters.{IsCondition}
 

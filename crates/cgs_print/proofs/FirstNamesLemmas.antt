@@ -2,7 +2,7 @@
 use Rattle.std.proofs.Common.{ℕ, zero, suc, ◌≡◌, ◌+◌, ◌≤◌, cond, List, [], ◌∷◌, ◌++◌, length, take, drop, codes, refl, ap, ◌∙◌, arith, eqb}
 use Rattle.std.proofs.lemmas.List.{length-drop, take-take, drop-take}
 use Rattle.std.specs.List.{flat_map}
-use Rattle.cgs_poly.specs.declared.ring.Ring.{Ring}
+use Rattle.cgs_poly.specs.Ring.{Ring}
 use Rattle.cgs_poly.specs.Polynomial.{Term, IsCanonical, places}
 use Rattle.cgs_print.specs.Printing.{power_text, powers_text, monomial_text, term_text, polynomial_text}
 

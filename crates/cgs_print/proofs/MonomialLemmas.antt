@@ -9,7 +9,7 @@ use Rattle.std.proofs.lemmas.List.Folds.{sum_by-replicate}
 use Rattle.std.proofs.lemmas.Bool.{le-ltb, lt-ltb, eqb-true}
 use Rattle.std.proofs.lemmas.Slice.Eq.{bytes_eq-Decides}
 use Rattle.cgs_exps.specs.Monomial.{degree}
-use Rattle.cgs_poly.specs.declared.ring.Ring.{Ring}
+use Rattle.cgs_poly.specs.Ring.{Ring}
 use Rattle.cgs_poly.specs.Polynomial.{term, places, greatest_degree}
 use Rattle.cgs_problem.specs.Lexemes.{Lexeme, times}
 use Rattle.cgs_problem.specs.Sums.{Reader, product, follow, place_in, place_of}

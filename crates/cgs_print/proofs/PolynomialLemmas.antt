@@ -5,7 +5,7 @@ use Rattle.std.proofs.Math.Nat.{zero-mod}
 use Rattle.std.proofs.lemmas.Fmt.{decimal_digit}
 use Rattle.cgs_exps.specs.Monomial.{degree}
 use Rattle.cgs_tokens.specs.Tokens.{is_word}
-use Rattle.cgs_poly.specs.declared.ring.Ring.{Ring}
+use Rattle.cgs_poly.specs.Ring.{Ring}
 use Rattle.cgs_poly.specs.Polynomial.{Term, term, places, canonical, IsCanonical, greatest_degree}
 use Rattle.cgs_poly.proofs.CanonicalLemmas.{canonical_itself}
 use Rattle.cgs_list.specs.Results.{and_then}

@@ -5,7 +5,7 @@ use Rattle.std.proofs.lemmas.List.{length-take, length-drop, take-append-drop}
 use Rattle.std.proofs.lemmas.List.Concat.{flat_map-append}
 use Rattle.std.proofs.lemmas.List.Folds.{list_all-append}
 use Rattle.std.specs.List.{flat_map, join_by, list_all}
-use Rattle.cgs_poly.specs.declared.ring.Ring.{Ring}
+use Rattle.cgs_poly.specs.Ring.{Ring}
 use Rattle.cgs_poly.specs.Polynomial.{term, places}
 use Rattle.cgs_print.specs.Printing.{power_text, powers_text, factors_text, term_text, following}
 use Rattle.cgs_print.proofs.PrintLemmas.{Leaves, leaves_all, leaves_equal}

@@ -9,7 +9,7 @@ use Rattle.std.proofs.lemmas.List.Sums.{sum_by-set}
 use Rattle.std.proofs.lemmas.List.Folds.{sum_by-replicate}
 use Rattle.cgs_exps.specs.Monomial.{degree}
 use Rattle.cgs_order.specs.TermOrder.{compared}
-use Rattle.cgs_poly.specs.declared.ring.Ring.{Ring}
+use Rattle.cgs_poly.specs.Ring.{Ring}
 use Rattle.cgs_poly.specs.Polynomial.{Term, term, places, order_of, kept, inserted, canonical, greatest_degree, IsOfRing}
 use Rattle.cgs_poly.proofs.CanonicalLemmas.{is_canonical}
 use Rattle.cgs_list.specs.Results.{and_then}

@@ -5,7 +5,7 @@ use Rattle.std.specs.List.{AllByRecursion, join_by}
 use Rattle.std.proofs.Math.Nat.{mod-eq_of_lt, one-mul}
 use Rattle.std.proofs.lemmas.Bool.{eqb-true}
 use Rattle.cgs_exps.specs.Monomial.{degree}
-use Rattle.cgs_poly.specs.declared.ring.Ring.{Ring}
+use Rattle.cgs_poly.specs.Ring.{Ring}
 use Rattle.cgs_poly.specs.Polynomial.{Term, term, places, greatest_degree}
 use Rattle.cgs_problem.specs.Lexemes.{Lexeme, name, number, plus, minus, times, power}
 use Rattle.cgs_problem.specs.Sums.{Reader, product, follow, one}

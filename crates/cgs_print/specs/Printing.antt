@@ -4,7 +4,7 @@ use Rattle.std.specs.Prelude.{Some, None, Result, Ok, Err}
 use Rattle.std.specs.List.{flat_map, join_by}
 use Rattle.cgs_order.specs.declared.kind.Kind.{Kind}
 use Rattle.cgs_order.specs.Words as order
-use Rattle.cgs_poly.specs.declared.ring.Ring.{Ring}
+use Rattle.cgs_poly.specs.Ring.{Ring}
 use Rattle.cgs_poly.specs.Polynomial.{Term}
 use Rattle.cgs_entry.specs.declared.conditions.Conditions.{Conditions}
 use Rattle.cgs_entry.specs.declared.entry.Cause.{Cause}

@@ -7,7 +7,7 @@ use Rattle.cgs_field.specs.Prime.{moduli}
 use Rattle.cgs_order.specs.declared.kind.Kind.{Kind}
 use Rattle.cgs_order.specs.declared.kind.Kind.TheVariants.{Lex}
 use Rattle.cgs_order.specs.Words.{kind_named}
-use Rattle.cgs_poly.specs.declared.ring.Ring.{Ring}
+use Rattle.cgs_poly.specs.Ring.{Ring}
 use Rattle.cgs_poly.specs.Polynomial.{Term, greatest_degree}
 use Rattle.cgs_problem.specs.declared.fault.TextKind.{TextKind}
 use Rattle.cgs_problem.specs.declared.fault.TextKind.TheVariants as fault

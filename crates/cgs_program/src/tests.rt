@@ -76,7 +76,7 @@ const BASIS_OF_ONE_UNIT: &[&[u8]] = &[b"basis", b"--budget", b"1"];
 
 const SOLVE: &[&[u8]] = &[b"solve"];
 
-const SOLVE_WITHIN_ELEVEN: &[&[u8]] = &[b"solve", b"--budget", b"11"];
+const SOLVE_WITHIN_SIX: &[&[u8]] = &[b"solve", b"--budget", b"6"];
 
 const SOLVE_WITH_HISTORY: &[&[u8]] = &[b"solve", b"--history", b"--workers", b"64"];
 
@@ -151,7 +151,7 @@ fn answers(rt: HostRuntime) -> Result<(), Fail> {
             Status::Done,
         ),
         (
-            SOLVE_WITHIN_ELEVEN,
+            SOLVE_WITHIN_SIX,
             LINE,
             b"segment 0\nnonzero a\nbasis a*x+6\nsolvable yes\nfinite yes\nstandard 1\nrefused 1 budget\nzero a\nsegments 1 refused 1\n",
             Status::Partial,

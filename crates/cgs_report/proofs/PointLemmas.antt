@@ -12,7 +12,7 @@ use Rattle.cgs_list.proofs.ListLemmas.{all_weaker}
 use Rattle.cgs_field.proofs.PrimeLemmas.{modulus_prime}
 use Rattle.cgs_exps.specs.Monomial.{divides, product, quotient}
 use Rattle.cgs_exps.proofs.MonomialLemmas.{quotient_product, quotient_length, divides_zeros}
-use Rattle.cgs_poly.specs.declared.ring.Ring.{Ring}
+use Rattle.cgs_poly.specs.Ring.{Ring}
 use Rattle.cgs_poly.specs.Polynomial.{Term, places, one, IsRing, IsCanonical, IsPoly}
 use Rattle.cgs_poly.specs.Product.{leading_monomial}
 use Rattle.cgs_poly.specs.Parameters.{lead_x, lc_x, value_at, variables_ring, specialised, has_no_variables}
@@ -90,7 +90,7 @@ multiple_leads ring F f m r k h n l o d none =
     let two = (modulus_prime ring.modulus r.modulus).above_one in
     let t : List ℕ = quotient m (leading_monomial f) in
     let long : length t ≡ places ring = quotient_length m (leading_monomial f) (places ring) l o in
-    none (moved ring t f) (multiple_canonical ring 1 t f r (omega arith) two long k)
+    none (moved ring t f) (multiple_canonical ring 1 t f r.modulus (omega arith) two long k)
     (same_member ring F pos (changed_multiple ring.modulus 1 t f) (multiple_member ring F pos 1 t f long h)) (moved_some ring t f n)
     (moved_lead ring t f n ∙ quotient_product m (leading_monomial f) (l ∙ sym o) d)
 

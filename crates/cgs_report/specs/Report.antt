@@ -1,7 +1,7 @@
 -- What a report tells of a basis.
 use Rattle.std.specs.Prelude.{Bool, true, false, not, List, [], ◌∷◌}
 use Rattle.std.specs.Cmp.Lexicographic.{pointwise}
-use Rattle.cgs_poly.specs.declared.ring.Ring.{Ring}
+use Rattle.cgs_poly.specs.Ring.{Ring}
 use Rattle.cgs_poly.specs.Polynomial.{Term, one}
 use Rattle.cgs_poly.specs.Same.{same_poly}
 use Rattle.cgs_report.specs.declared.entry.Findings.{Findings}

@@ -10,7 +10,7 @@ use cgs_divide::{Stop, autoreduce};
 use cgs_entry::Cause;
 use cgs_exps::Powers;
 use cgs_order::{BlockOrder, Kind};
-use cgs_pairs::{Pair, Queue, s_polynomial};
+use cgs_pairs::{Pair, Queue, Taken, s_polynomial};
 use cgs_poly::{Poly, PolyList};
 use cgs_print::{basis_text, refusal_text};
 use cgs_problem::{Problem, Text};
@@ -40,6 +40,8 @@ const CIRCLE_AND_LINE: &str = "poly x^2-1\npoly x*y-1\n";
 
 const HIGH_POWERS: &str = "poly x^20000\npoly y^20000\n";
 
+const HIGH_PRODUCTS: &str = "poly x^20000*y\npoly x*y^20000\n";
+
 const ROWS: &[Row<'static>] = &[
     Row {
         run: Run::Difference,
@@ -56,11 +58,11 @@ const ROWS: &[Row<'static>] = &[
         found: "refused degree\n",
         left: 0,
     },
-    // six pairs, whose remainders are x+6*y, y^2+6 and four times 0
+    // six pairs: two are passed, and the remainders of the others are x+6*y, y^2+6, 0 and 0
     Row {
         run: Run::Completion,
         polys: CIRCLE_AND_LINE,
-        units: 22,
+        units: 12,
         found: "basis x^2+6\nbasis x*y+6\nbasis x+6*y\nbasis y^2+6\nmembers 4\n",
         left: 0,
     },
@@ -68,14 +70,22 @@ const ROWS: &[Row<'static>] = &[
     Row {
         run: Run::Completion,
         polys: CIRCLE_AND_LINE,
-        units: 21,
+        units: 11,
         found: "refused budget\n",
         left: 1,
+    },
+    // the pair is passed
+    Row {
+        run: Run::Completion,
+        polys: HIGH_POWERS,
+        units: 0,
+        found: "basis x^20000\nbasis y^20000\nmembers 2\n",
+        left: 0,
     },
     // the pair has paid
     Row {
         run: Run::Completion,
-        polys: HIGH_POWERS,
+        polys: HIGH_PRODUCTS,
         units: 5,
         found: "refused degree\n",
         left: 4,
@@ -97,27 +107,41 @@ const ROWS: &[Row<'static>] = &[
     Row {
         run: Run::Basis,
         polys: CIRCLE_AND_LINE,
-        units: 26,
+        units: 16,
         found: "basis y^2+6\nbasis x+6*y\nmembers 2\n",
         left: 0,
     },
     Row {
         run: Run::Basis,
         polys: CIRCLE_AND_LINE,
-        units: 25,
+        units: 15,
         found: "refused budget\n",
         left: 0,
     },
     Row {
         run: Run::Basis,
         polys: HIGH_POWERS,
+        units: 2,
+        found: "basis y^20000\nbasis x^20000\nmembers 2\n",
+        left: 0,
+    },
+    Row {
+        run: Run::Basis,
+        polys: HIGH_POWERS,
+        units: 1,
+        found: "refused budget\n",
+        left: 0,
+    },
+    Row {
+        run: Run::Basis,
+        polys: HIGH_PRODUCTS,
         units: 1,
         found: "refused degree\n",
         left: 0,
     },
     Row {
         run: Run::Basis,
-        polys: HIGH_POWERS,
+        polys: HIGH_PRODUCTS,
         units: 0,
         found: "refused budget\n",
         left: 0,
@@ -232,6 +256,20 @@ fn pairs(rt: HostRuntime) -> Result<(), Fail> {
         assert_eq!(rt; pair.smaller, smaller);
     }
     assert!(rt; queue.take_least().is_none());
+    Ok(())
+}
+
+#[test]
+fn noted_pairs(rt: HostRuntime) -> Result<(), Fail> {
+    let mut taken = Taken::new(rt.alloc());
+    assert!(rt; !taken.has(1, 0));
+    for (larger, smaller) in [(5, 2), (1, 0), (5, 2)] {
+        taken.note(larger, smaller)?;
+        assert!(rt; taken.has(larger, smaller));
+    }
+    for (larger, smaller) in [(2, 5), (5, 1), (5, 3), (4, 0), (usize::MAX, 0)] {
+        assert!(rt; !taken.has(larger, smaller));
+    }
     Ok(())
 }
 

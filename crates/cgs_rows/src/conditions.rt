@@ -28,10 +28,10 @@ const EMPTINESS: [(&str, u64, Result<bool, Stop>, u64); 10] = [
     ("zero a\nnonzero a\n", 2, Err(Stop::Budget), 0),
     ("nonzero a\n", 4, Ok(false), 0),
     ("nonzero a\n", 3, Err(Stop::Budget), 0),
-    ("zero a\n", 6, Ok(false), 0),
-    ("zero a\n", 5, Err(Stop::Budget), 0),
-    ("zero 1\n", 4, Ok(true), 0),
-    ("zero 1\n", 3, Err(Stop::Budget), 0),
+    ("zero a\n", 4, Ok(false), 0),
+    ("zero a\n", 3, Err(Stop::Budget), 0),
+    ("zero 1\n", 2, Ok(true), 0),
+    ("zero 1\n", 1, Err(Stop::Budget), 0),
 ];
 
 fn is_empty(alloc: Global, problem: Problem, fuel: &mut u64) -> Result<bool, Stop>

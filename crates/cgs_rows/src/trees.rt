@@ -79,8 +79,14 @@ const NODES: &[NodeRow<'static>] = &[
     NodeRow {
         ring: LINE,
         lines: "poly a\npoly x\n",
-        budget: 5,
+        budget: 4,
         found: Found::Children(2),
+    },
+    NodeRow {
+        ring: LINE,
+        lines: "poly a\npoly x\n",
+        budget: 3,
+        found: Found::Refused(Cause::Budget),
     },
     NodeRow {
         ring: LINE,
@@ -91,6 +97,12 @@ const NODES: &[NodeRow<'static>] = &[
     NodeRow {
         ring: PLANE,
         lines: "poly x^20000\npoly y^20000\n",
+        budget: 4,
+        found: Found::Children(1),
+    },
+    NodeRow {
+        ring: PLANE,
+        lines: "poly x^20000*y\npoly x*y^20000\n",
         budget: 100,
         found: Found::Refused(Cause::Degree),
     },
@@ -178,7 +190,7 @@ const LISTS: &[ListRow<'static>] = &[
         ring: LINE,
         lines: "poly a*x-1\n",
         limits: Limits {
-            budget: 12,
+            budget: 7,
             depth: 64,
         },
         list: "segment 0\nnonzero a\nbasis a*x+6\nsolvable yes\nfinite yes\nstandard 1\nsegment 1\nzero a\nbasis 1\nsolvable no\nfinite yes\nstandard 0\nsegments 2 refused 0\n",
@@ -187,7 +199,7 @@ const LISTS: &[ListRow<'static>] = &[
         ring: LINE,
         lines: "poly a*x-1\n",
         limits: Limits {
-            budget: 11,
+            budget: 6,
             depth: 64,
         },
         list: "segment 0\nnonzero a\nbasis a*x+6\nsolvable yes\nfinite yes\nstandard 1\nrefused 1 budget\nzero a\nsegments 1 refused 1\n",
@@ -196,10 +208,28 @@ const LISTS: &[ListRow<'static>] = &[
         ring: LINE,
         lines: "poly a\npoly x\n",
         limits: Limits {
-            budget: 5,
+            budget: 4,
             depth: 64,
         },
-        list: "segment 0\nnonzero a\nbasis 1\nsolvable no\nfinite yes\nstandard 0\nsegment 1\nzero a\nuntested\nbasis x\nsolvable yes\nfinite yes\nstandard 1\nsegments 2 refused 0\n",
+        list: "segment 0\nnonzero a\nbasis 1\nsolvable no\nfinite yes\nstandard 0\nsegment 1\nzero a\nbasis x\nsolvable yes\nfinite yes\nstandard 1\nsegments 2 refused 0\n",
+    },
+    ListRow {
+        ring: LINE,
+        lines: "poly a^2-1\n",
+        limits: Limits {
+            budget: 6,
+            depth: 64,
+        },
+        list: "segment 0\nnonzero a^2+6\nuntested\nbasis 1\nsolvable no\nfinite yes\nstandard 0\nsegment 1\nzero a^2+6\nsolvable yes\nfinite no\nstandard none\nsegments 2 refused 0\n",
+    },
+    ListRow {
+        ring: LINE,
+        lines: "poly a^2-1\n",
+        limits: Limits {
+            budget: 7,
+            depth: 64,
+        },
+        list: "segment 0\nnonzero a^2+6\nbasis 1\nsolvable no\nfinite yes\nstandard 0\nsegment 1\nzero a^2+6\nsolvable yes\nfinite no\nstandard none\nsegments 2 refused 0\n",
     },
     ListRow {
         ring: TWO_PARAMETERS,

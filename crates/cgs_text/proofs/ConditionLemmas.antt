@@ -1,7 +1,7 @@
 -- A polynomial that was read without variables is a condition.
 use Rattle.std.proofs.Common.{◌≡◌, List, [], ◌∷◌, take, replicate, subst}
 use Rattle.std.specs.Prelude.{ℕ, Result, Ok, Err, IfOk}
-use Rattle.cgs_poly.specs.declared.ring.Ring.{Ring}
+use Rattle.cgs_poly.specs.Ring.{Ring}
 use Rattle.cgs_poly.specs.Polynomial.{Term, IsPoly}
 use Rattle.cgs_poly.specs.Parameters.{HasNoVariables, IsCondition}
 use Rattle.cgs_problem.specs.Sums.{Reader}

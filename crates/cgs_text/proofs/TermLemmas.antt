@@ -6,7 +6,7 @@ use Rattle.std.specs.List.{AllByRecursion}
 use Rattle.std.proofs.lemmas.List.{length-replicate}
 use Rattle.cgs_list.specs.Results.{mapped, IsFault}
 use Rattle.cgs_field.proofs.PrimeLemmas.{modulus_prime}
-use Rattle.cgs_poly.specs.declared.ring.Ring.{Ring}
+use Rattle.cgs_poly.specs.Ring.{Ring}
 use Rattle.cgs_poly.specs.Draft.{HaveLength}
 use Rattle.cgs_poly.specs.Polynomial.{Term, term, places, IsRing}
 use Rattle.cgs_tokens.specs.declared.lexeme.Lexeme.{Lexeme as Read}

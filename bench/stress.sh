@@ -8,54 +8,7 @@ set -eu
 here=$(cd "$(dirname "$0")" && pwd)
 work=$(mktemp -d)
 trap 'rm -rf "$work"' EXIT
-cat >"$work/refuse.c" <<'C'
-/* Allocation number REFUSED of the process, counted from 1, finds no memory. */
-#define _GNU_SOURCE
-#include <dlfcn.h>
-#include <errno.h>
-#include <stdatomic.h>
-#include <stddef.h>
-#include <stdlib.h>
-
-void *__libc_malloc(size_t);
-void *__libc_calloc(size_t, size_t);
-void *__libc_realloc(void *, size_t);
-void *__libc_memalign(size_t, size_t);
-
-static atomic_long calls;
-static long refused;
-
-__attribute__((constructor)) static void begin(void)
-{
-    const char *text = getenv("REFUSED");
-    refused = text ? atol(text) : 0;
-    atomic_store(&calls, 0);
-}
-
-static int is_refused(void)
-{
-    if (atomic_fetch_add(&calls, 1) + 1 != refused)
-        return 0;
-    errno = ENOMEM;
-    return 1;
-}
-
-void *malloc(size_t size) { return is_refused() ? NULL : __libc_malloc(size); }
-void *calloc(size_t count, size_t size) { return is_refused() ? NULL : __libc_calloc(count, size); }
-void *realloc(void *old, size_t size) { return is_refused() ? NULL : __libc_realloc(old, size); }
-void *memalign(size_t align, size_t size) { return is_refused() ? NULL : __libc_memalign(align, size); }
-void *aligned_alloc(size_t align, size_t size) { return is_refused() ? NULL : __libc_memalign(align, size); }
-
-int posix_memalign(void **out, size_t align, size_t size)
-{
-    void *made = is_refused() ? NULL : __libc_memalign(align, size);
-    if (made == NULL)
-        return ENOMEM;
-    *out = made;
-    return 0;
-}
-C
-gcc -O1 -shared -fPIC -o "$work/refuse.so" "$work/refuse.c"
+gcc -O1 -shared -fPIC -o "$work/refuse.so" "$here/refuse.c"
 PYTHONPATH=$here python3 -B - "$here/../crates/cgs/out/cgs" "$here/../examples/quadratic.cgs" "$work/refuse.so" "$@" <<'PY'
 import pathlib, sys
 from systems import text

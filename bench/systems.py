@@ -13,6 +13,11 @@ systems = [
      ["x^2+y^2+z^2-a", "x^2-2*x+1+y^2+z^2-b", "x^2+y^2-2*y+1+z^2-c", "x^2+y^2+z^2-2*z+1-d"]),
     # after Weispfenning
     ("weispfenning", "u v", "x y", "lex", ["v*x*y+u*x^2+x", "u*y^2+x^2"]),
+    # a flat tetrahedron by its squared edges, and the cosines between four directions in space, in two orders
+    ("tetrahedron", "a b c d e f", "t u v w z", "lex",
+     ["u+v+w+z", "t+a*v+b*w+c*z", "t+a*u+d*w+e*z", "t+b*u+d*v+f*z", "t+c*u+e*v+f*w"]),
+    ("cosines", "a b c d e f", "x y z w", "grevlex", ["x+a*y+b*z+c*w", "a*x+y+d*z+e*w", "b*x+d*y+z+f*w", "c*x+e*y+f*z+w"]),
+    ("cosines-grlex", "a b c d e f", "x y z w", "grlex", ["x+a*y+b*z+c*w", "a*x+y+d*z+e*w", "b*x+d*y+z+f*w", "c*x+e*y+f*z+w"]),
     # linear systems
     ("linear-two-rows", "a b c d e f", "x y", "lex", ["a*x+b*y-e", "c*x+d*y-f"]),
     ("linear-diagonal", "a b c d e", "x y z", "lex", ["a*x+y+z-d", "x+b*y+z-e", "x+y+c*z-1"]),

@@ -1,6 +1,6 @@
 #!/bin/sh
 # Times `cgs solve` with 1, 2, 4 and 8 workers on three systems of bench/systems.py: branches, milliseconds of one worker for a branch, and
-# for each number of workers seconds and the part that they are of one worker's, both the medians of seven rounds that try each number in
+# for each number of workers seconds and the part that they are of one worker's, both the medians of five rounds that try each number in
 # turn. It ends with 1 where the bytes differ from those of one worker. Nothing else should run meanwhile.
 # Then it tells of one worker what the top call of one worker, by `cgs_bench solve`, takes beside it, and, where valgrind is there, which
 # part of all instructions goes by under the lock of the board, which is that of its `claim` and `give`.
@@ -12,9 +12,9 @@ import os, re, shutil, subprocess, sys, tempfile
 from statistics import median
 from systems import text
 from timed import Run
-crates, picked = sys.argv[1], sys.argv[2:] or ["conic-and-parabola", "lotka-volterra", "complementarity"]
+crates, picked = sys.argv[1], sys.argv[2:] or ["cosines", "tetrahedron", "cosines-grlex"]
 program, alone = crates + "/cgs/out/cgs", crates + "/cgs_bench/out/cgs_bench"
-counts, rounds = [1, 2, 4, 8], 7
+counts, rounds = [1, 2, 4, 8], 5
 
 def with_workers(count):
     return [program, "solve", "--workers", str(count)]

@@ -1,11 +1,11 @@
 -- Terms kept in two flat lists: appended lists, a front, what is behind it, one place, and when two are the same.
-use Rattle.std.proofs.Common.{ℕ, zero, suc, ◌≡◌, ◌+◌, ◌-◌, ◌*◌, ◌<◌, ◌≤◌, List, [], ◌∷◌, ◌++◌, length, take, drop, get_or, Some, refl, sym, ap, ◌∙◌, arith}
+use Rattle.std.proofs.Common.{ℕ, zero, suc, ◌≡◌, ◌+◌, ◌-◌, ◌*◌, ◌<◌, ◌≤◌, List, [], ◌∷◌, ◌++◌, length, take, drop, get_or, set, Some, refl, sym, ap, ◌∙◌, arith}
 use Rattle.std.proofs.lemmas.List.{length-take, length-drop, take-append-drop, drop-drop, take-append-le, drop-append-le, drop-take, take-take, get_or_read}
 use Rattle.std.proofs.lemmas.List.{nil_from_length}
 use Rattle.std.proofs.Math.Nat.{mul-le-mul_right, le_of_mul-le-mul_left, le_antisymm}
 use Rattle.std.specs.Prelude.{slice_get}
 use Rattle.cgs_terms.specs.Polynomial.{Term, term}
-use Rattle.cgs_terms.specs.Flat.{terms_of, coefficients_of, exponents_of}
+use Rattle.cgs_terms.specs.Flat.{terms_of, with_coefficient, coefficients_of, exponents_of}
 
 pub terms_length : (p : ℕ) (cs es : List ℕ) → length (terms_of p cs es) ≡ length cs
 terms_length p [] es = refl
@@ -108,6 +108,15 @@ flat_part p from n cs es ds ns f v h d e =
       flat = rw (d, e) (take_flat p n (drop from cs) (drop (from * p) es) behind);
       terms = rw (d, e) (terms_take p n (drop from cs) (drop (from * p) es) behind ∙ ap (take n) (terms_drop p from cs es ∙ ap (drop from) v));
     }
+
+-- another coefficient at a place
+pub with_set : (p i c : ℕ) (cs es : List ℕ) (f : List Term) → terms_of p cs es ≡ f → i < length f → terms_of p (set cs i c) es ≡ with_coefficient i c f
+with_set p i c cs es f v h = here p i cs es (omega (arith, h, count_of p cs es f v)) ∙ ap (with_coefficient i c) v
+  where
+    here : (p i : ℕ) (cs es : List ℕ) → i < length cs → terms_of p (set cs i c) es ≡ with_coefficient i c (terms_of p cs es)
+    here p i [] es h = absurd (omega arith)
+    here p zero (d ∷ cs) es h = refl
+    here p (suc i) (d ∷ cs) es h = ap (λ g. term d (take p es) ∷ g) (here p i cs (drop p es) (omega arith))
 
 -- flat lists are the same exactly where their terms are
 

@@ -20,7 +20,7 @@ use Rattle.cgs_terms.proofs.CanonicalLemmas.{AllBelow, all_below_append, all_bel
 use Rattle.cgs_terms.proofs.CanonicalLemmas.{canonical_starts, canonical_itself}
 use Rattle.cgs_terms.proofs.PlaceLemmas.{canonical_drop}
 
-kept_whole : (ring : Ring) (c : ℕ) (m : List ℕ) (f : List Term) → 0 < c → c < ring.modulus → kept ring c m f ≡ term c m ∷ f
+pub kept_whole : (ring : Ring) (c : ℕ) (m : List ℕ) (f : List Term) → 0 < c → c < ring.modulus → kept ring c m f ≡ term c m ∷ f
 kept_whole ring c m f l h =
     let e : c % ring.modulus ≡ c = mod-eq_of_lt h in
     let t : eqb (c % ring.modulus) 0 ≡ false = ne_eqb (c % ring.modulus) 0 (λ z. omega arith) in

@@ -54,6 +54,30 @@ impl Draft {
         Draft::with_room(alloc, places, coefficients, exponents)
     }
 
+    /// No terms, in the memory of a list, which grows where it has no room for all terms of two lists.
+    pub fn reusing(
+        list: TermList,
+        places: usize,
+        f: &Flat<'_>,
+        g: &Flat<'_>,
+    ) -> Result<Draft, AllocError>
+        ensures none { IfOk result (λ draft. terms_in draft ≡ []) }
+        ensures flat { IfOk result IsFlat }
+        ensures places { IfOk result (λ draft. draft.places ≡ places) }
+    {
+        let mut coefficients = list.coefficients;
+        let mut exponents = list.exponents;
+        coefficients.clear();
+        coefficients.reserve(f.coefficients.len() + g.coefficients.len())?;
+        exponents.clear();
+        exponents.reserve(f.exponents.len() + g.exponents.len())?;
+        Ok(Draft {
+            coefficients,
+            exponents,
+            places,
+        })
+    }
+
     /// Puts a term at the end.
     pub fn push(&mut self, c: Elem, m: &[u16]) -> Result<(), AllocError>
         requires flat { IsFlat self.old }

@@ -3,7 +3,7 @@
 ghost use Rattle.std.specs.Prelude.{◌≡◌, ◌<◌, ◌↔◌, [], ◌∷◌, ◌++◌, Some, length, slice_get, IsTrue, OnOk, OnErr};
 ghost use Rattle.cgs_terms.specs.Polynomial.{term};
 ghost use Rattle.cgs_terms.specs.Draft.{HaveLength};
-ghost use Rattle.cgs_terms.specs.Flat.{coefficients_of, exponents_of};
+ghost use Rattle.cgs_terms.specs.Flat.{with_coefficient, coefficients_of, exponents_of};
 
 use crate::flat::{Flat, Term};
 use cgs_field::Elem;
@@ -94,6 +94,14 @@ impl TermList {
         self.coefficients.push(c)?;
         self.places = m.len();
         Ok(())
+    }
+
+    /// Gives the term at a place another coefficient.
+    pub fn set_coefficient(&mut self, i: usize, c: Elem)
+        requires { i < length self.old }
+        ensures { self.new ≡ with_coefficient i c self.old }
+    {
+        self.coefficients[i] = c;
     }
 
     /// Whether two lists are equal. Exponents are compared first: different members of a list mostly differ in the lead.

@@ -1,7 +1,8 @@
 //! A program that does one operation on polynomials again and again and prints nothing, for a script to time.
 //!
 //! Its words are the operation, the number of terms of each polynomial and how often it is done: `add 1000 50`. Of
-//! `divide` the last is the number of units of work. `tree 2 16 1` takes all branches of a tree with two children a branch
+//! `divide` and `divide_far` the last is the number of units of work; the second divides by a polynomial whose multiples land
+//! far below their leads. `tree 2 16 1` takes all branches of a tree with two children a branch
 //! and 16 levels below the root, once. The word `solve` alone solves the problem on standard input by the top call of one
 //! worker, and prints its list. The status is 1 where the words say something else or memory is short.
 #![tactic(auto)]
@@ -60,7 +61,14 @@ fn with_polynomials(alloc: Global, operation: Operation, terms: u32, times: u32)
     let ring = plane()?;
     let f = spread(alloc, &ring, 2, terms).ok()?;
     match operation {
-        Operation::Divide => divide_for(alloc, &ring, &f, times),
+        Operation::Divide => {
+            let divisor = spread(alloc, &ring, 3, 10).ok()?;
+            divide_for(alloc, &ring, &f, &divisor, times)
+        }
+        Operation::DivideFar => {
+            let divisor = far(alloc, &ring).ok()?;
+            divide_for(alloc, &ring, &f, &divisor, times)
+        }
         Operation::Add | Operation::Product => {
             let g = spread(alloc, &ring, 3, terms).ok()?;
             operate_for(alloc, &ring, operation, &f, &g, times)
@@ -74,6 +82,7 @@ enum Operation {
     Add,
     Product,
     Divide,
+    DivideFar,
 }
 
 /// The operation on polynomials that a word names.
@@ -82,6 +91,7 @@ fn named(word: &str) -> Option<Operation> {
         "add" => Some(Operation::Add),
         "product" => Some(Operation::Product),
         "divide" => Some(Operation::Divide),
+        "divide_far" => Some(Operation::DivideFar),
         _ => None,
     }
 }
@@ -106,14 +116,13 @@ fn operate_for(
     Some(())
 }
 
-/// Divides f by a polynomial of ten terms again and again, until so many units are spent.
-fn divide_for(alloc: Global, ring: &Ring, f: &Poly, units: u32) -> Option<()>
+/// Divides f by a polynomial again and again, until so many units are spent.
+fn divide_for(alloc: Global, ring: &Ring, f: &Poly, divisor: &Poly, units: u32) -> Option<()>
     requires ring { IsRing ring.now }
-    requires two { places ring.now ≡ 2 }
     requires poly { IsPoly ring.now f.now }
+    requires divisor { IsPoly ring.now divisor.now }
 {
-    let divisor = spread(alloc, ring, 3, 10).ok()?;
-    let divisors = monic_list(alloc, ring, &divisor).ok()?;
+    let divisors = monic_list(alloc, ring, divisor).ok()?;
     let mut fuel = u64::from(units);
     for _ in 0..units {
         match divide(alloc, ring, f, &divisors, &mut fuel) {
@@ -183,6 +192,23 @@ fn spread(alloc: Global, ring: &Ring, step: u32, terms: u32) -> Result<Poly, All
     Ok(sum)
 }
 
+/// The first variable and nine powers of the second that are far apart.
+#[tactic(auto, using(cgs_poly::proofs::TermLemmas::terms_have_length, cgs_list::proofs::ListLemmas::all_push))]
+fn far(alloc: Global, ring: &Ring) -> Result<Poly, AllocError>
+    requires ring { IsRing ring.now }
+    requires two { places ring.now ≡ 2 }
+    ensures { IfOk result (λ f. IsPoly ring.now f) }
+{
+    let mut list = TermList::new(alloc);
+    for number in 0..10u32 {
+        let exponents = [(number / 9) as u16, (number % 9 * 37) as u16];
+        let coefficient = ring.modulus.of_u64(u64::from(number) + 1);
+        list.push(coefficient, &exponents)?;
+    }
+    let sum = Poly::of_terms(alloc, ring, &list)?;
+    Ok(sum)
+}
+
 /// One operation on f and g.
 fn operated(
     alloc: Global,
@@ -197,6 +223,8 @@ fn operated(
 {
     match operation {
         Operation::Product => Poly::product(alloc, ring, f, g),
-        Operation::Add | Operation::Divide => Ok(Poly::add(alloc, ring, f, g)?),
+        Operation::Add | Operation::Divide | Operation::DivideFar => Ok(Poly::add(
+            alloc, ring, f, g,
+        )?),
     }
 }

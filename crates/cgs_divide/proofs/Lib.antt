@@ -6,6 +6,7 @@ pub mod RunLemmas
 pub mod ResumedLemmas
 pub mod RestLemmas
 pub mod StepLemmas
+pub mod TailLemmas
 pub mod MonicLemmas
 pub mod MinimalLemmas
 pub mod AutoreductionRunLemmas

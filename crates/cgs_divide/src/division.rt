@@ -1,16 +1,15 @@
 //! The division of a polynomial by a list of polynomials.
 
-ghost use Rattle.std.specs.Prelude.{◌≡◌, ◌<◌, ◌≤◌, ◌-◌, ◌++◌, ℕ, [], ◌∷◌, true, false, length, slice_index_or, slice_set, take, map, replicate, IsTrue, IsNone, IfSome, IfOk, OnOk, OnErr, IsErrOf, IfErr};
+ghost use Rattle.std.specs.Prelude.{◌≡◌, ◌<◌, ◌≤◌, ◌-◌, ◌++◌, ℕ, [], ◌∷◌, length, slice_index_or, slice_set, take, drop, map, replicate, IsTrue, IsNone, IfSome, IfOk, OnOk, OnErr, IsErrOf, IfErr};
 ghost use Rattle.cgs_exps.specs.Monomial as monomial;
 ghost use Rattle.cgs_exps.specs.Mask as masks;
-ghost use Rattle.cgs_poly.specs.Polynomial.{IsRing, IsPoly, places, term, greatest_degree, ArePolys};
+ghost use Rattle.cgs_poly.specs.Polynomial.{IsRing, IsPoly, HasLowDegrees, places, term, canonical, ArePolys};
 ghost use Rattle.cgs_poly.specs.Product.{leading_monomial, multiple};
 ghost use Rattle.cgs_poly.specs.Draft.{HaveLength};
 ghost use Rattle.cgs_algebra.specs.Groebner.{AreMonic};
-ghost use Rattle.cgs_divide.specs.DivisionRun.{divided, done, out_of_budget, out_of_degree, is_too_high, lead_mask, LeavesRemainder};
+ghost use Rattle.cgs_divide.specs.DivisionRun.{divided, done, out_of_budget, out_of_degree, lead_mask, LeavesRemainder};
 ghost use Rattle.cgs_divide.specs.DivisionRun as run;
 ghost use Rattle.cgs_divide.specs.Division.{HasDivided, IsRemainder};
-ghost use Rattle.cgs_divide.specs.Rest.{left, IsRest};
 
 use crate::rest::Rest;
 use crate::stop::Stop;
@@ -95,25 +94,26 @@ fn divide_keeping(
     ensures degree { IsErrOf result Stop.Degree → divided ring.now divisors.now fuel.old f.now ≡ out_of_degree fuel.new }
     ensures units { fuel.new ≤ fuel.old }
 {
-    let mut rest = Rest::whole(alloc);
+    let mut rest = Rest::whole(alloc, ring);
     let mut remainder = Poly::zero(alloc);
     let mut quotients = zeros(alloc, kept)?;
     let masks = lead_masks(alloc, divisors)?;
-    while let Some(leading) = rest.lead(f) {
-        match first_divisor(divisors, &masks, leading.exponents) {
+    let places = ring.places();
+    let mut room = [0; MAX_PLACES];
+    while let Some(c) = rest.take_lead(ring, f, &mut room[..places]) {
+        let leading = &room[..places];
+        match first_divisor(divisors, &masks, leading) {
             None => {
                 spend(fuel, 1)?;
-                remainder.push(leading.coefficient, leading.exponents)?;
-                rest.pass_lead(f);
+                remainder.push(c, leading)?;
             }
             Some(i) => {
                 let divisor = divisors.get(i);
-                let c = leading.coefficient;
-                let mut room = [0; MAX_PLACES];
-                let t = &mut room[..leading.exponents.len()];
-                lead_quotient_into(leading.exponents, divisor, t);
+                let mut quotient = [0; MAX_PLACES];
+                let t = &mut quotient[..places];
+                lead_quotient_into(leading, divisor, t);
                 keep_term(&mut quotients, i, c, t)?;
-                reduce(alloc, ring, f, &mut rest, c, t, divisor, fuel)?;
+                reduce(ring, &mut rest, c, t, divisor, fuel)?;
             }
         }
     }
@@ -202,36 +202,33 @@ fn lead_quotient_into(m: &[u16], divisor: &Poly, out: &mut [u16])
     quotient_into(m, divisor.term(0).exponents, out);
 }
 
-// The step that subtracts a multiple of a divisor from what is left.
+// The step by a divisor whose multiple starts with the term that was taken: the terms behind its lead are subtracted.
 fn reduce(
-    alloc: Global,
     ring: &Ring,
-    f: &Poly,
     rest: &mut Rest,
     c: Elem,
     t: &[u16],
     divisor: &Poly,
     fuel: &mut u64,
 ) -> Result<(), Stop>
-    requires ring { IsRing ring.now }
-    requires poly { IsPoly ring.now f.now }
-    requires rest { IsRest ring.now f.now rest.old }
+    requires ring { rest.old.sum.ring ≡ ring.now }
+    requires modulus { IsRing ring.now }
     requires positive { 0 < c }
     requires below { c < ring.now.modulus }
     requires places { length t.now ≡ places ring.now }
-    requires low { monomial.degree t.now ≤ greatest_degree }
     requires divisor { IsPoly ring.now divisor.now }
     requires some { 0 < length divisor.now }
-    ensures ok { OnOk result (left rest.new f.now ≡ run.less_multiple ring.now (left rest.old f.now) c t.now divisor.now) }
-    ensures rest { OnOk result (IsRest ring.now f.now rest.new) }
+    ensures from { rest.new.from ≡ rest.old.from }
+    ensures ring { rest.new.sum.ring ≡ ring.now }
+    ensures sum { OnOk result (rest.new.sum.terms ≡ canonical ring.now (rest.old.sum.terms ++ multiple (ring.now.modulus - c) t.now (drop 1 divisor.now))) }
     ensures paid { OnOk result ((length divisor.now ≤ fuel.old) × (fuel.new ≡ fuel.old - length divisor.now)) }
-    ensures low { OnOk result (is_too_high (multiple c t.now divisor.now) ≡ false) }
+    ensures low { OnOk result (HasLowDegrees (multiple (ring.now.modulus - c) t.now (drop 1 divisor.now))) }
     ensures budget { IsErrOf result Stop.Budget → (fuel.old < length divisor.now) × (fuel.new ≡ fuel.old) }
-    ensures degree { IsErrOf result Stop.Degree → (length divisor.now ≤ fuel.old) × (fuel.new ≡ fuel.old - length divisor.now) × (is_too_high (multiple c t.now divisor.now) ≡ true) }
+    ensures degree { IsErrOf result Stop.Degree → (length divisor.now ≤ fuel.old) × (fuel.new ≡ fuel.old - length divisor.now) × (¬ HasLowDegrees (multiple (ring.now.modulus - c) t.now (drop 1 divisor.now))) }
     ensures memory { fuel.new ≤ fuel.old }
 {
     spend(fuel, divisor.len() as u64)?;
-    rest.subtract(alloc, ring, f, c, t, divisor)?;
+    rest.add_behind_lead(ring.modulus.neg(c), t, divisor)?;
     Ok(())
 }
 

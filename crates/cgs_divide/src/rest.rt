@@ -1,147 +1,135 @@
 //! What is left of a polynomial in a division.
 
-ghost use Rattle.std.specs.Prelude.{◌≡◌, ◌<◌, ◌≤◌, ◌-◌, ◌++◌, [], length, take, drop, slice_get, IsNone, IfSome, OnOk, IsErrOf};
-ghost use Rattle.cgs_exps.specs.Monomial as monomial;
-ghost use Rattle.cgs_poly.specs.Polynomial.{IsRing, IsPoly, HasLowDegrees, places, term, greatest_degree};
-ghost use Rattle.cgs_poly.specs.Product.{multiple};
+ghost use Rattle.std.specs.Prelude.{◌≡◌, ◌<◌, ◌≤◌, ◌^◌, ◌++◌, [], ◌∷◌, Some, length, drop, slice_get, IsNone, IfSome, OnOk, IsErrOf};
+ghost use Rattle.cgs_poly.specs.Polynomial.{IsRing, IsPoly, HasLowDegrees, places, term, canonical};
 ghost use Rattle.cgs_poly.specs.Draft.{HaveLength};
-ghost use Rattle.cgs_divide.specs.DivisionRun as run;
-ghost use Rattle.cgs_divide.specs.Rest.{left, IsRest};
+ghost use Rattle.cgs_poly.specs.Product.{multiple};
+ghost use Rattle.cgs_divide.specs.Rest.{left, against, IsRest};
 
-use cgs_exps::{MAX_PLACES, product_into};
+use cgs_bucket::{Bucket, BucketFault};
 use cgs_field::Elem;
-use cgs_poly::{Poly, PolyFault, Ring, Term};
-use std::alloc::{AllocError, Global};
+use cgs_order::compare;
+use cgs_poly::{Poly, Ring};
+use std::alloc::Global;
+use std::cmp::Ordering;
 
-/// What is left of a polynomial: the terms of a short front from a place on, which steps have changed, and behind them
-/// the polynomial's own terms from a place on, which no step has reached.
-#[derive(Debug, Drop)]
+/// What is left of a polynomial: the sum of the multiples that steps added, and the polynomial's own terms from a place
+/// on, which nobody copies.
+#[derive(Drop)]
 pub(crate) struct Rest {
-    pub(crate) front: Poly,
-    pub(crate) at: usize,
+    pub(crate) sum: Bucket,
     pub(crate) from: usize,
 }
 
 impl Rest {
     // The whole of a polynomial.
-    pub(crate) fn whole(alloc: Global) -> Rest
-        ensures front { result.front ≡ [] }
-        ensures at { result.at ≡ 0 }
+    pub(crate) fn whole(alloc: Global, ring: &Ring) -> Rest
+        requires { IsRing ring.now }
+        ensures sum { result.sum ≡ record { ring = ring.now; terms = [] } }
         ensures from { result.from ≡ 0 }
     {
         Rest {
-            front: Poly::zero(alloc),
-            at: 0,
+            sum: Bucket::new(alloc, ring.modulus, ring.order()),
             from: 0,
         }
     }
 
-    // The leading term.
-    pub(crate) fn lead<'a>(&'a self, f: &'a Poly) -> Option<Term<'a>>
-        ensures none { IsNone result → left self.now f.now ≡ [] }
-        ensures first { IfSome result (λ x. slice_get (left self.now f.now) 0 ≡ Some (term x.coefficient x.exponents.now)) }
-    {
-        if self.at < self.front.len() {
-            return Some(self.front.term(self.at));
-        }
-        if self.from < f.len() {
-            return Some(f.term(self.from));
-        }
-        None
-    }
-
-    // Leaves the leading term behind, if there is one.
-    pub(crate) fn pass_lead(&mut self, f: &Poly)
-        ensures left { left self.new f.now ≡ drop 1 (left self.old f.now) }
-        ensures rest { (ring : Ring) → IsRest ring f.now self.old → IsRest ring f.now self.new }
-    {
-        if self.at < self.front.len() {
-            self.at += 1;
-        } else if self.from < f.len() {
-            self.from += 1;
-        }
-    }
-
-    // Subtracts a multiple of a divisor. Terms of f below all terms of the multiple are not read.
-    pub(crate) fn subtract(
-        &mut self,
-        alloc: Global,
-        ring: &Ring,
-        f: &Poly,
-        c: Elem,
-        t: &[u16],
-        divisor: &Poly,
-    ) -> Result<(), PolyFault>
+    // Takes the leading term away, if there is one: its monomial is written into `out`, and the answer is its coefficient.
+    pub(crate) fn take_lead(&mut self, ring: &Ring, f: &Poly, out: &mut [u16]) -> Option<Elem>
         requires ring { IsRing ring.now }
         requires poly { IsPoly ring.now f.now }
         requires rest { IsRest ring.now f.now self.old }
-        requires positive { 0 < c }
-        requires below { c < ring.now.modulus }
-        requires places { length t.now ≡ places ring.now }
-        requires low { monomial.degree t.now ≤ greatest_degree }
-        requires divisor { IsPoly ring.now divisor.now }
-        requires some { 0 < length divisor.now }
-        ensures ok { OnOk result (left self.new f.now ≡ run.less_multiple ring.now (left self.old f.now) c t.now divisor.now) }
-        ensures rest { OnOk result (IsRest ring.now f.now self.new) }
-        ensures degree { IsErrOf result PolyFault.Degree → ¬ HasLowDegrees (multiple c t.now divisor.now) }
-        ensures low { OnOk result (HasLowDegrees (multiple c t.now divisor.now)) }
+        requires out { length out.old ≡ places ring.now }
+        ensures rest { IsRest ring.now f.now self.new }
+        ensures out { length out.new ≡ places ring.now }
+        ensures none { IsNone result → left ring.now self.old f.now ≡ [] }
+        ensures first { IfSome result (λ c. left ring.now self.old f.now ≡ term c out.new ∷ left ring.now self.new f.now) }
     {
-        let last = divisor.term(divisor.len() - 1);
-        let mut room = [0; MAX_PLACES];
-        let least = &mut room[..t.len()];
-        if product_into(t, last.exponents, least).is_err() {
-            return Err(PolyFault::Degree);
+        while let Some(c) = self.summed_lead(out) {
+            match self.against_own(ring, f, out) {
+                Ordering::Less => return self.take_own(f, out),
+                Ordering::Greater => {
+                    self.sum.drop_lead();
+                    return Some(c);
+                }
+                Ordering::Equal => {}
+            }
+            let joined = ring.modulus.add(c, f.term(self.from).coefficient);
+            self.sum.drop_lead();
+            self.from += 1;
+            if joined.number() != 0 {
+                return Some(joined);
+            }
         }
-        let end = f.place_below(ring, self.from, least);
-        self.reach(alloc, ring.places(), f, end)?;
-        let front = Poly::sub_multiple(alloc, ring, &self.front, c, t, divisor)?;
-        self.front = front;
-        Ok(())
+        self.take_own(f, out)
     }
 
-    // Puts the terms of f up to a place behind those of the front that are left. Where none of the front was left behind,
-    // nothing is copied.
-    fn reach(
+    // The coefficient of the sum's leading term, whose monomial is written into `out`.
+    fn summed_lead(&mut self, out: &mut [u16]) -> Option<Elem>
+        requires poly { IsPoly self.old.sum.ring self.old.sum.terms }
+        requires out { length out.old ≡ places self.old.sum.ring }
+        ensures same { self.new ≡ self.old }
+        ensures out { length out.new ≡ length out.old }
+        ensures none { IsNone result → self.old.sum.terms ≡ [] }
+        ensures first { IfSome result (λ c. slice_get self.old.sum.terms 0 ≡ Some (term c out.new)) }
+    {
+        let lead = self.sum.lead()?;
+        out.copy_from_slice(lead.exponents);
+        Some(*lead.coefficient)
+    }
+
+    // How a monomial compares to the first of the polynomial's own terms that are left. It is greater where there is none.
+    fn against_own(&self, ring: &Ring, f: &Poly, m: &[u16]) -> Ordering
+        requires poly { IsPoly ring.now f.now }
+        requires places { length m.now ≡ places ring.now }
+        ensures order { result ≡ against ring.now m.now (drop self.now.from f.now) }
+        ensures few { length f.now < 2 ^ 64 }
+    {
+        if self.from >= f.len() {
+            return Ordering::Greater;
+        }
+        compare(&ring.order(), m, f.term(self.from).exponents)
+    }
+
+    // Takes away the first of the polynomial's own terms that are left.
+    fn take_own(&mut self, f: &Poly, out: &mut [u16]) -> Option<Elem>
+        requires places { HaveLength (length out.old) f.now }
+        ensures sum { self.new.sum ≡ self.old.sum }
+        ensures from { self.old.from ≤ length f.now → self.new.from ≤ length f.now }
+        ensures out { length out.new ≡ length out.old }
+        ensures none { IsNone result → drop self.old.from f.now ≡ [] }
+        ensures first { IfSome result (λ c. drop self.old.from f.now ≡ term c out.new ∷ drop self.new.from f.now) }
+    {
+        if self.from >= f.len() {
+            return None;
+        }
+        let first = f.term(self.from);
+        out.copy_from_slice(first.exponents);
+        self.from += 1;
+        Some(first.coefficient)
+    }
+
+    // Adds a multiple of the terms of a divisor behind its leading one. Where it errs, nothing is added.
+    pub(crate) fn add_behind_lead(
         &mut self,
-        alloc: Global,
-        places: usize,
-        f: &Poly,
-        end: usize,
-    ) -> Result<(), AllocError>
-        requires lengths { HaveLength places f.now }
-        requires front { HaveLength places self.old.front }
-        requires at { self.old.at ≤ length self.old.front }
-        requires rising { self.old.from ≤ end }
-        requires within { end ≤ length f.now }
-        ensures front { OnOk result (self.new.front ≡ drop self.old.at self.old.front ++ take (end - self.old.from) (drop self.old.from f.now)) }
-        ensures at { OnOk result (self.new.at ≡ 0) }
-        ensures from { OnOk result (self.new.from ≡ end) }
+        c: Elem,
+        t: &[u16],
+        divisor: &Poly,
+    ) -> Result<(), BucketFault>
+        requires positive { 0 < c }
+        requires below { c < self.old.sum.ring.modulus }
+        requires places { length t.now ≡ places self.old.sum.ring }
+        requires divisor { IsPoly self.old.sum.ring divisor.now }
+        requires some { 0 < length divisor.now }
+        ensures from { self.new.from ≡ self.old.from }
+        ensures ring { self.new.sum.ring ≡ self.old.sum.ring }
+        ensures sum { OnOk result (self.new.sum.terms ≡ canonical self.old.sum.ring (self.old.sum.terms ++ multiple c t.now (drop 1 divisor.now))) }
+        ensures degree { IsErrOf result BucketFault.Degree → ¬ HasLowDegrees (multiple c t.now (drop 1 divisor.now)) }
+        ensures low { OnOk result (HasLowDegrees (multiple c t.now (drop 1 divisor.now))) }
     {
-        if self.at == 0 {
-            return self.push_reached(places, f, end);
-        }
-        let front = Poly::spliced(alloc, places, &self.front, self.at, f, self.from, end)?;
-        self.front = front;
-        self.at = 0;
-        self.from = end;
-        Ok(())
-    }
-
-    // Puts the terms of f up to a place behind the front.
-    fn push_reached(&mut self, places: usize, f: &Poly, end: usize) -> Result<(), AllocError>
-        requires lengths { HaveLength places f.now }
-        requires front { HaveLength places self.old.front }
-        requires rising { self.old.from ≤ end }
-        requires within { end ≤ length f.now }
-        ensures front { OnOk result (self.new.front ≡ self.old.front ++ take (end - self.old.from) (drop self.old.from f.now)) }
-        ensures at { OnOk result (self.new.at ≡ self.old.at) }
-        ensures from { OnOk result (self.new.from ≡ end) }
-    {
-        for i in self.from..end {
-            let term = f.term(i);
-            self.front.push(term.coefficient, term.exponents)?;
-        }
-        self.from = end;
-        Ok(())
+        let coefficients = divisor.coefficients();
+        let exponents = divisor.exponents();
+        self.sum
+            .add_multiple(c, t, &coefficients[1..], &exponents[t.len()..])
     }
 }

@@ -7,7 +7,6 @@
 
 mod arithmetic;
 mod fault;
-mod front;
 mod laws;
 mod list;
 mod merge;

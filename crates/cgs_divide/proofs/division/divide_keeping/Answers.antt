@@ -1,32 +1,37 @@
-use Rattle.std.proofs.Common.{List, true, false, Err, ◌≡◌, ◌<◌, ◌≤◌, ◌++◌, ℕ, [], ◌∷◌, length, get_or, set, replicate, refl, sym, ap, ◌∙◌, subst, arith}
-use Rattle.std.proofs.lemmas.List.{length-set, length-take-le}
-use Rattle.cgs_exps.specs.Monomial.{divides, quotient}
-use Rattle.cgs_exps.proofs.MonomialLemmas.{quotient_length, degree_quotient}
-use Rattle.cgs_poly.specs.Product.{multiple, leading_monomial}
+use Rattle.std.proofs.Common.{List, Some, true, Err, ◌≡◌, ◌<◌, ◌≤◌, ◌-◌, ◌++◌, ℕ, [], ◌∷◌, length, get_or, set, take, drop, replicate}
+use Rattle.std.proofs.Common.{refl, sym, ap, ◌∙◌, subst, arith}
+use Rattle.std.specs.Prelude.{slice_get}
+use Rattle.std.proofs.lemmas.List.{length-set, take_at}
+use Rattle.cgs_exps.specs.Monomial.{divides, quotient, product}
+use Rattle.cgs_exps.proofs.MonomialLemmas.{quotient_length, quotient_product}
+use Rattle.cgs_poly.specs.Product.{multiple, leading_monomial, leading_coefficient}
 use Rattle.cgs_divide.specs.declared.stop.Stop.TheVariants as stop
-use Rattle.cgs_poly.specs.Polynomial.{Term, IsPoly, places, term}
+use Rattle.cgs_poly.specs.Polynomial.{Term, HasLowDegrees, IsPoly, places, term, canonical}
 use Rattle.cgs_poly.specs.Draft.{HaveLength}
-use Rattle.cgs_poly.proofs.RingLemmas.{ring_positive, places_few}
-use Rattle.cgs_poly.proofs.PlaceLemmas.{IsTermOf, canonical_at}
+use Rattle.cgs_poly.proofs.RingLemmas.{ring_positive}
+use Rattle.cgs_poly.proofs.CanonicalLemmas.{canonical_itself}
 use Rattle.cgs_list.proofs.ListLemmas.{all_at_place}
+use Rattle.cgs_bucket.specs.Levels.{Contents}
 use Rattle.cgs_divide.specs.Rest.{left}
-use Rattle.cgs_divide.proofs.RestLemmas.{low_at}
+use Rattle.cgs_divide.proofs.RestLemmas.{left_poly}
+use Rattle.cgs_divide.proofs.TailLemmas.{step_left, step_rest, tail_high, tail_not_high}
 use Rattle.cgs_algebra.proofs.RepresentationLemmas.{lead_at_length}
-use Rattle.cgs_divide.specs.DivisionRun.{out_of_budget, out_of_degree, is_too_high, less_multiple}
+use Rattle.cgs_divide.specs.DivisionRun.{first_divisor, out_of_budget, out_of_degree, is_too_high, less_multiple}
 use Rattle.cgs_divide.proofs.QuotientLemmas.{divisor_divides, zeros, zeros_length}
 use Rattle.cgs_divide.proofs.RunLemmas.{monic_some, divided_nothing}
 use Rattle.cgs_divide.proofs.ResumedLemmas.{resumed_nothing, resumed_done, zeros_front, empty_at, front_set}
 use Rattle.cgs_divide.proofs.StepLemmas.{get_read, kept_step, kept_stop, taken_budget, taken_degree, taken_step, set_keeps, lengths_append}
 use Rattle.cgs_divide.proofs.StepLemmas.{same_stop}
 use Rattle.cgs_divide.proofs.division.divide_keeping.Goals as goal
-use Rattle.cgs_divide.proofs.division.divide_keeping.Goals.{In-Some, After-get-divisor, After-lead_quotient_into, After-from_vec}
+use Rattle.cgs_divide.proofs.division.divide_keeping.Goals.{In-Some, After-get-divisor, After-from_vec}
 use Rattle.cgs_algebra.proofs.PlaceLemmas.{monic_at}
 
-pub loop-leading-init : goal.loop-leading-init
-loop-leading-init c =
+pub loop-c-init : goal.loop-c-init
+loop-c-init c =
     let z : c.in_ok-quotients.quotients.items ≡ replicate c.args.kept [] = c.in_ok-quotients.ensures in
     let w = c.whole-rest.ensures in
-    let e : left c.whole-rest.result c.args.f.now ≡ c.args.f.now = rw (w.front, w.at, w.from) refl in
+    let e : left c.args.ring.now c.whole-rest.result c.args.f.now ≡ c.args.f.now =
+    rw (w.sum, w.from) (canonical_itself c.args.ring.now c.args.f.now (ring_positive c.args.ring.now c.requires.ring) c.requires.poly.canonical) in
     record {
       run = record {
         quotients = zeros c.args.divisors.now;
@@ -34,103 +39,102 @@ loop-leading-init c =
         kept = z ∙ zeros_front c.args.kept c.args.divisors.now c.requires.kept;
         places = zeros_length c.args.divisors.now;
       };
-      rest = record { poly = rw e c.requires.poly; lengths = rw w.front tt; at = omega (arith, w.at); from = omega (arith, w.from) };
+      rest = record {
+        same = ap (λ (b : Contents). b.ring) w.sum;
+        sum = rw w.sum (record { canonical = tt; low = tt });
+        from = omega (arith, w.from);
+      };
       remainder = rw c.zero-remainder.ensures tt;
       units = omega arith;
       lengths = λ i. rw (z, empty_at c.args.kept i) tt;
     }
 
--- the leading term of what is left
+-- the leading term that was taken
 abbrev leading : In-Some → Term
-leading c = term c.in-Some.leading.coefficient c.in-Some.leading.exponents.now
+leading c = term c.in-Some.c c.take_lead.new.out
 
-is_term : (c : In-Some) → IsTermOf c.args.ring.now (leading c)
-is_term c =
-    canonical_at c.args.ring.now 0 (left c.loop-leading.rest c.args.f.now) (leading c) c.loop-leading.invariant.rest.poly.canonical c.in-Some.ensures.first
+leading_poly : (c : In-Some) → IsPoly c.args.ring.now (leading c ∷ left c.args.ring.now c.take_lead.new.self c.args.f.now)
+leading_poly c =
+    subst (IsPoly c.args.ring.now) c.in-Some.ensures.first
+    (left_poly c.args.ring.now c.args.f.now c.loop-c.rest (ring_positive c.args.ring.now c.requires.ring) c.requires.poly c.loop-c.invariant.rest)
 
-pub first_divisor-requires-clause-places : goal.first_divisor-requires-clause-places
-first_divisor-requires-clause-places c =
-    let p : length c.in-Some.leading.exponents.now ≡ places c.args.ring.now = (is_term (goal.at.first_divisor-requires-clause-places c).In-Some).places in
-    omega (arith, p, places_few c.args.ring.now c.requires.ring)
+here : (c : In-Some) → slice_get (left c.args.ring.now c.loop-c.rest c.args.f.now) 0 ≡ Some (leading c)
+here c = ap (λ k. slice_get k 0) c.in-Some.ensures.first
 
-pub first_divisor-requires-clause-lengths : goal.first_divisor-requires-clause-lengths
-first_divisor-requires-clause-lengths c = λ i l.
-    lead_at_length c.args.ring.now c.args.divisors.now (ring_positive c.args.ring.now c.requires.ring) c.requires.monic i l
-    ∙ sym (is_term (goal.at.first_divisor-requires-clause-lengths c).In-Some).places
+-- its monomial, as it stands in the room
+abbrev seen : In-Some → List ℕ
+seen c = take c.places-places.result (c.take_lead.new.out ++ drop c.places-places.result c.loop-c.room)
+
+seen_is : (c : In-Some) → seen c ≡ c.take_lead.new.out
+seen_is c = take_at c.take_lead.new.out (drop c.places-places.result c.loop-c.room) c.places-places.result
+    (c.in-Some.ensures.out ∙ sym c.places-places.ensures)
 
 -- the term goes to the remainder
 
+none_divides : (c : In-Some) → length c.args.divisors.now ≤ first_divisor c.args.divisors.now (seen c)
+    → length c.args.divisors.now ≤ first_divisor c.args.divisors.now c.take_lead.new.out
+none_divides c h = subst (λ m. length c.args.divisors.now ≤ first_divisor c.args.divisors.now m) (seen_is c) h
+
 pub returns-in_err-spend-in-None-clause-budget : goal.returns-in_err-spend-in-None-clause-budget
 returns-in_err-spend-in-None-clause-budget c = λ e.
-    c.loop-leading.invariant.run.run
-    ∙ (kept_stop c.args.ring.now c.args.divisors.now c.requires.monic c.loop-leading.invariant.run.quotients
-    c.loop-leading.fuel c.loop-leading.remainder (left c.loop-leading.rest c.args.f.now)
-    (leading (goal.at.returns-in_err-spend-in-None-clause-budget c).In-Some) c.in-Some.ensures.first
-    (c.in-None.ensures.none refl) c.in_err-spend-in-None.ensures.budget.0
+    let s = (goal.at.returns-in_err-spend-in-None-clause-budget c).In-Some in
+    c.loop-c.invariant.run.run
+    ∙ (kept_stop c.args.ring.now c.args.divisors.now c.requires.monic c.loop-c.invariant.run.quotients
+    c.loop-c.fuel c.loop-c.remainder (left c.args.ring.now c.loop-c.rest c.args.f.now) (leading s) (here s)
+    (none_divides s (c.in-None.ensures.none refl)) c.in_err-spend-in-None.ensures.budget.0
     ∙ ap out_of_budget (sym c.in_err-spend-in-None.ensures.budget.1))
 
-pub push-requires : goal.push-requires
-push-requires c = record { places = rw (is_term (goal.at.push-requires c).In-Some).places c.loop-leading.invariant.remainder }
-
-pub loop-leading-preserved-in-None : goal.loop-leading-preserved-in-None
-loop-leading-preserved-in-None c =
+pub loop-c-preserved-in-Continue-branch-4 : goal.loop-c-preserved-in-Continue-branch-4
+loop-c-preserved-in-Continue-branch-4 c =
     let paid = c.in_ok-spend-in-None.ensures.ok in
-    let d = (goal.at.loop-leading-preserved-in-None c).In-Some in
-    let x : Term = leading d in
-    let r = c.loop-leading.invariant.run in
+    let s = (goal.at.loop-c-preserved-in-Continue-branch-4 c).In-Some in
+    let r = c.loop-c.invariant.run in
+    let pushed : c.push.new.self ≡ c.loop-c.remainder ++ leading s ∷ [] =
+    c.in_ok-push-in-None.ensures.ok ∙ ap (λ m. c.loop-c.remainder ++ term c.in-Some.c m ∷ []) (seen_is s) in
+    let next : drop 1 (left c.args.ring.now c.loop-c.rest c.args.f.now) ≡ left c.args.ring.now c.take_lead.new.self c.args.f.now =
+    ap (drop 1) c.in-Some.ensures.first in
     record {
       run = record {
         quotients = r.quotients;
         run = r.run
-            ∙ (kept_step c.args.ring.now c.args.divisors.now c.requires.monic r.quotients c.loop-leading.fuel c.loop-leading.remainder
-            (left c.loop-leading.rest c.args.f.now) x c.in-Some.ensures.first (c.in-None.ensures.none refl) paid.0
-            ∙ rw (c.in_ok-push-in-None.ensures.ok, paid.1, c.pass_lead.ensures.left) refl);
+            ∙ (kept_step c.args.ring.now c.args.divisors.now c.requires.monic r.quotients c.loop-c.fuel c.loop-c.remainder
+            (left c.args.ring.now c.loop-c.rest c.args.f.now) (leading s) (here s) (none_divides s (c.in-None.ensures.none refl)) paid.0
+            ∙ rw (pushed, paid.1, next) refl);
         kept = r.kept;
         places = r.places;
       };
-      rest = c.pass_lead.ensures.rest c.args.ring.now c.loop-leading.invariant.rest;
-      remainder = rw c.in_ok-push-in-None.ensures.ok
-          (lengths_append (places c.args.ring.now) c.loop-leading.remainder x.coefficient x.exponents c.loop-leading.invariant.remainder (is_term d).places);
-      units = omega (arith, paid.1, c.loop-leading.invariant.units);
-      lengths = c.loop-leading.invariant.lengths;
+      rest = c.in-Some.ensures.rest;
+      remainder = rw pushed
+          (lengths_append (places c.args.ring.now) c.loop-c.remainder c.in-Some.c c.take_lead.new.out c.loop-c.invariant.remainder c.in-Some.ensures.out);
+      units = omega (arith, paid.1, c.loop-c.invariant.units);
+      lengths = c.loop-c.invariant.lengths;
     }
 
 -- the divisor at the place
 divisor_is : (c : After-get-divisor) → get_or c.args.divisors.now c.in-Some-first_divisor.i [] ≡ c.get-divisor.result.now
 divisor_is c = get_read c.args.divisors.now c.in-Some-first_divisor.i c.get-divisor.result.now [] c.get-divisor.ensures
 
+divisor_monic : (c : After-get-divisor) → leading_coefficient c.get-divisor.result.now ≡ 1
+divisor_monic c =
+    subst (λ g. leading_coefficient g ≡ 1) (divisor_is c)
+    (monic_at c.args.divisors.now c.requires.monic.monic c.in-Some-first_divisor.i c.in-Some-first_divisor.ensures.first.0)
+
 divisor_some : (c : After-get-divisor) → 0 < length c.get-divisor.result.now
-divisor_some c =
-    subst (λ g. 0 < length g) (divisor_is c)
-    (monic_some (get_or c.args.divisors.now c.in-Some-first_divisor.i [])
-    (monic_at c.args.divisors.now c.requires.monic.monic c.in-Some-first_divisor.i c.in-Some-first_divisor.ensures.first.0))
+divisor_some c = monic_some c.get-divisor.result.now (divisor_monic c)
 
-divisor_divides_term : (c : After-get-divisor) → divides (leading_monomial c.get-divisor.result.now) c.in-Some.leading.exponents.now ≡ true
-divisor_divides_term c =
-    let f = c.in-Some-first_divisor.ensures.first in
-    let d : divides (leading_monomial (get_or c.args.divisors.now c.in-Some-first_divisor.i [])) c.in-Some.leading.exponents.now ≡ true =
-    subst (λ j. divides (leading_monomial (get_or c.args.divisors.now j [])) c.in-Some.leading.exponents.now ≡ true) f.1
-    (divisor_divides c.args.divisors.now c.in-Some.leading.exponents.now (subst (λ j. j < length c.args.divisors.now) (sym f.1) f.0)) in
-    subst (λ g. divides (leading_monomial g) c.in-Some.leading.exponents.now ≡ true) (divisor_is c) d
+divisor_poly : (c : After-get-divisor) → IsPoly c.args.ring.now c.get-divisor.result.now
+divisor_poly c =
+    subst (IsPoly c.args.ring.now) (divisor_is c)
+    (all_at_place (IsPoly c.args.ring.now) [] c.args.divisors.now c.requires.divisors c.in-Some-first_divisor.i c.in-Some-first_divisor.ensures.first.0)
 
--- room for the monomial of the step
-
-few : (c : In-Some) → length c.in-Some.leading.exponents.now ≤ 17
-few c = omega (arith, (is_term c).places, places_few c.args.ring.now c.requires.ring)
-
-pub slice_bounds-room-end : goal.slice_bounds-room-end
-slice_bounds-room-end c = few (goal.at.slice_bounds-room-end c).In-Some
-
-pub slice_bounds-t-end : goal.slice_bounds-t-end
-slice_bounds-t-end c =
-    sym (length-take-le (length c.in-Some.leading.exponents.now) (replicate 17 0) (few (goal.at.slice_bounds-t-end c).In-Some))
-
-pub lead_quotient_into-requires-clause-out_places : goal.lead_quotient_into-requires-clause-out_places
-lead_quotient_into-requires-clause-out_places c =
-    length-take-le (length c.in-Some.leading.exponents.now) (replicate 17 0) (few (goal.at.lead_quotient_into-requires-clause-out_places c).In-Some)
-
-pub lead_quotient_into-requires-clause-some : goal.lead_quotient_into-requires-clause-some
-lead_quotient_into-requires-clause-some c = divisor_some (goal.at.lead_quotient_into-requires-clause-some c).After-get-divisor
+divisor_divides_at : (c : After-get-divisor) (m : List ℕ) → first_divisor c.args.divisors.now m ≡ c.in-Some-first_divisor.i
+    → divides (leading_monomial c.get-divisor.result.now) m ≡ true
+divisor_divides_at c m f =
+    let l : first_divisor c.args.divisors.now m < length c.args.divisors.now =
+    subst (λ j. j < length c.args.divisors.now) (sym f) c.in-Some-first_divisor.ensures.first.0 in
+    let d : divides (leading_monomial (get_or c.args.divisors.now c.in-Some-first_divisor.i [])) m ≡ true =
+    subst (λ j. divides (leading_monomial (get_or c.args.divisors.now j [])) m ≡ true) f (divisor_divides c.args.divisors.now m l) in
+    subst (λ g. divides (leading_monomial g) m ≡ true) (divisor_is c) d
 
 -- the lead of the divisor is of the ring
 lead_long : (c : After-get-divisor) → length (leading_monomial c.get-divisor.result.now) ≡ places c.args.ring.now
@@ -139,65 +143,38 @@ lead_long c =
     (lead_at_length c.args.ring.now c.args.divisors.now (ring_positive c.args.ring.now c.requires.ring) c.requires.monic
     c.in-Some-first_divisor.i c.in-Some-first_divisor.ensures.first.0)
 
+pub lead_quotient_into-requires-clause-some : goal.lead_quotient_into-requires-clause-some
+lead_quotient_into-requires-clause-some c = divisor_some (goal.at.lead_quotient_into-requires-clause-some c).After-get-divisor
+
 pub lead_quotient_into-requires-clause-same_places : goal.lead_quotient_into-requires-clause-same_places
 lead_quotient_into-requires-clause-same_places c =
-    lead_long (goal.at.lead_quotient_into-requires-clause-same_places c).After-get-divisor
-    ∙ sym (is_term (goal.at.lead_quotient_into-requires-clause-same_places c).In-Some).places
+    let s = (goal.at.lead_quotient_into-requires-clause-same_places c).In-Some in
+    lead_long (goal.at.lead_quotient_into-requires-clause-same_places c).After-get-divisor ∙ sym (ap length (seen_is s) ∙ c.in-Some.ensures.out)
 
 pub lead_quotient_into-requires-clause-divides : goal.lead_quotient_into-requires-clause-divides
-lead_quotient_into-requires-clause-divides c = divisor_divides_term (goal.at.lead_quotient_into-requires-clause-divides c).After-get-divisor
-
-pub lead_quotient_into-requires-clause-places : goal.lead_quotient_into-requires-clause-places
-lead_quotient_into-requires-clause-places c =
-    let p : length c.in-Some.leading.exponents.now ≡ places c.args.ring.now =
-    (is_term (goal.at.lead_quotient_into-requires-clause-places c).In-Some).places in
-    omega (arith, p, places_few c.args.ring.now c.requires.ring)
-
--- the monomial of the step
-t_long : (c : After-lead_quotient_into) → length c.in-Some.leading.exponents.now ≡ places c.args.ring.now
-    → length (leading_monomial c.get-divisor.result.now) ≡ places c.args.ring.now → length c.lead_quotient_into.new.out ≡ places c.args.ring.now
-t_long c l k =
-    ap length c.lead_quotient_into.ensures
-    ∙ quotient_length c.in-Some.leading.exponents.now (leading_monomial c.get-divisor.result.now) (places c.args.ring.now) l k
-
-pub keep_term-requires : goal.keep_term-requires
-keep_term-requires c =
-    let t = t_long (goal.at.keep_term-requires c).After-lead_quotient_into (is_term (goal.at.keep_term-requires c).In-Some).places
-    (lead_long (goal.at.keep_term-requires c).After-get-divisor) in
-    record { places = rw t (c.loop-leading.invariant.lengths c.in-Some-first_divisor.i) }
+lead_quotient_into-requires-clause-divides c =
+    divisor_divides_at (goal.at.lead_quotient_into-requires-clause-divides c).After-get-divisor
+    (seen (goal.at.lead_quotient_into-requires-clause-divides c).In-Some) c.in-Some-first_divisor.ensures.first.1
 
 pub reduce-requires-clause-positive : goal.reduce-requires-clause-positive
-reduce-requires-clause-positive c = (is_term (goal.at.reduce-requires-clause-positive c).In-Some).positive
+reduce-requires-clause-positive c = (leading_poly (goal.at.reduce-requires-clause-positive c).In-Some).canonical.0
 
 pub reduce-requires-clause-below : goal.reduce-requires-clause-below
-reduce-requires-clause-below c = (is_term (goal.at.reduce-requires-clause-below c).In-Some).below
-
-pub reduce-requires-clause-places : goal.reduce-requires-clause-places
-reduce-requires-clause-places c =
-    t_long (goal.at.reduce-requires-clause-places c).After-lead_quotient_into (is_term (goal.at.reduce-requires-clause-places c).In-Some).places
-    (lead_long (goal.at.reduce-requires-clause-places c).After-get-divisor)
-
-pub reduce-requires-clause-low : goal.reduce-requires-clause-low
-reduce-requires-clause-low c =
-    let d = (goal.at.reduce-requires-clause-low c).After-get-divisor in
-    let x = is_term (goal.at.reduce-requires-clause-low c).In-Some in
-    let low = low_at (left c.loop-leading.rest c.args.f.now) 0 (leading (goal.at.reduce-requires-clause-low c).In-Some)
-    c.loop-leading.invariant.rest.poly.low c.in-Some.ensures.first in
-    rw c.lead_quotient_into.ensures
-    (omega (
-      arith,
-      low,
-      degree_quotient c.in-Some.leading.exponents.now (leading_monomial c.get-divisor.result.now)
-          (x.places ∙ sym (lead_long d)) (divisor_divides_term d),
-    ))
+reduce-requires-clause-below c = (leading_poly (goal.at.reduce-requires-clause-below c).In-Some).canonical.1
 
 pub reduce-requires-clause-divisor : goal.reduce-requires-clause-divisor
-reduce-requires-clause-divisor c =
-    subst (λ g. IsPoly c.args.ring.now g) (divisor_is (goal.at.reduce-requires-clause-divisor c).After-get-divisor)
-    (all_at_place (IsPoly c.args.ring.now) [] c.args.divisors.now c.requires.divisors c.in-Some-first_divisor.i c.in-Some-first_divisor.ensures.first.0)
+reduce-requires-clause-divisor c = divisor_poly (goal.at.reduce-requires-clause-divisor c).After-get-divisor
 
 pub reduce-requires-clause-some : goal.reduce-requires-clause-some
 reduce-requires-clause-some c = divisor_some (goal.at.reduce-requires-clause-some c).After-get-divisor
+
+-- it is the first whose lead divides the term
+first_is : (s : In-Some) (i : ℕ) → first_divisor s.args.divisors.now (seen s) ≡ i → first_divisor s.args.divisors.now s.take_lead.new.out ≡ i
+first_is s i h = subst (λ m. first_divisor s.args.divisors.now m ≡ i) (seen_is s) h
+
+-- the monomial of the step
+step_is : (s : In-Some) (g : List Term) (t : List ℕ) → t ≡ quotient (seen s) (leading_monomial g) → t ≡ quotient s.take_lead.new.out (leading_monomial g)
+step_is s g t h = h ∙ ap (λ m. quotient m (leading_monomial g)) (seen_is s)
 
 -- a stop of the step is one of the run
 
@@ -208,11 +185,12 @@ returns-in_err-reduce-in-Some-first_divisor-clause-budget c = λ e.
     stop.Budget c.from_residual-in_err-reduce-in-Some-first_divisor.ensures.1 e in
     let h = c.in_err-reduce-in-Some-first_divisor.ensures.budget (ap Err s) in
     let f = c.in-Some-first_divisor.ensures.first in
+    let x = (goal.at.returns-in_err-reduce-in-Some-first_divisor-clause-budget c).In-Some in
     let d = (goal.at.returns-in_err-reduce-in-Some-first_divisor-clause-budget c).After-get-divisor in
-    c.loop-leading.invariant.run.run
-    ∙ (taken_budget c.args.ring.now c.args.divisors.now c.requires.monic c.loop-leading.invariant.run.quotients c.loop-leading.fuel c.loop-leading.remainder
-    (left c.loop-leading.rest c.args.f.now) (leading (goal.at.returns-in_err-reduce-in-Some-first_divisor-clause-budget c).In-Some) c.in-Some.ensures.first
-    c.in-Some-first_divisor.i c.get-divisor.result.now f.1 f.0 (divisor_is d) h.0
+    c.loop-c.invariant.run.run
+    ∙ (taken_budget c.args.ring.now c.args.divisors.now c.requires.monic c.loop-c.invariant.run.quotients c.loop-c.fuel c.loop-c.remainder
+    (left c.args.ring.now c.loop-c.rest c.args.f.now) (leading x) (here x)
+    c.in-Some-first_divisor.i c.get-divisor.result.now (first_is x c.in-Some-first_divisor.i f.1) f.0 (divisor_is d) h.0
     ∙ ap out_of_budget (sym h.1))
 
 pub returns-in_err-reduce-in-Some-first_divisor-clause-degree : goal.returns-in_err-reduce-in-Some-first_divisor-clause-degree
@@ -222,81 +200,96 @@ returns-in_err-reduce-in-Some-first_divisor-clause-degree c = λ e.
     stop.Degree c.from_residual-in_err-reduce-in-Some-first_divisor.ensures.1 e in
     let h = c.in_err-reduce-in-Some-first_divisor.ensures.degree (ap Err s) in
     let f = c.in-Some-first_divisor.ensures.first in
+    let x = (goal.at.returns-in_err-reduce-in-Some-first_divisor-clause-degree c).In-Some in
     let d = (goal.at.returns-in_err-reduce-in-Some-first_divisor-clause-degree c).After-get-divisor in
-    c.loop-leading.invariant.run.run
-    ∙ (taken_degree c.args.ring.now c.args.divisors.now c.requires.monic c.loop-leading.invariant.run.quotients c.loop-leading.fuel c.loop-leading.remainder
-    (left c.loop-leading.rest c.args.f.now) (leading (goal.at.returns-in_err-reduce-in-Some-first_divisor-clause-degree c).In-Some) c.in-Some.ensures.first
-    c.in-Some-first_divisor.i c.get-divisor.result.now f.1 f.0 (divisor_is d) h.0
-    (subst (λ n. is_too_high (multiple c.in-Some.leading.coefficient n c.get-divisor.result.now) ≡ true) c.lead_quotient_into.ensures h.2)
+    let g : List Term = c.get-divisor.result.now in
+    let high : is_too_high (multiple c.in-Some.c c.lead_quotient_into.new.out c.get-divisor.result.now) ≡ true =
+    tail_high c.in-Some.c (c.args.ring.now.modulus - c.in-Some.c) c.lead_quotient_into.new.out c.get-divisor.result.now h.2 in
+    c.loop-c.invariant.run.run
+    ∙ (taken_degree c.args.ring.now c.args.divisors.now c.requires.monic c.loop-c.invariant.run.quotients c.loop-c.fuel c.loop-c.remainder
+    (left c.args.ring.now c.loop-c.rest c.args.f.now) (leading x) (here x)
+    c.in-Some-first_divisor.i c.get-divisor.result.now (first_is x c.in-Some-first_divisor.i f.1) f.0 (divisor_is d) h.0
+    (subst (λ n. is_too_high (multiple c.in-Some.c n c.get-divisor.result.now) ≡ true) (step_is x g c.lead_quotient_into.new.out c.lead_quotient_into.ensures)
+    high)
     ∙ ap out_of_degree (sym h.1))
 
 -- a step that is done
 
-pub loop-leading-smaller : goal.loop-leading-smaller
-loop-leading-smaller c =
+pub loop-c-smaller : goal.loop-c-smaller
+loop-c-smaller c =
     let paid = c.in_ok-reduce-in-Some-first_divisor.ensures.paid in
-    let s : 0 < length c.get-divisor.result.now = divisor_some (goal.at.loop-leading-smaller c).After-get-divisor in
+    let s : 0 < length c.get-divisor.result.now = divisor_some (goal.at.loop-c-smaller c).After-get-divisor in
     omega (arith, paid.0, paid.1, s)
 
-pub loop-leading-preserved : goal.loop-leading-preserved
-loop-leading-preserved c =
-    let paid = c.in_ok-reduce-in-Some-first_divisor.ensures.paid in
+pub loop-c-preserved : goal.loop-c-preserved
+loop-c-preserved c =
+    let done = c.in_ok-reduce-in-Some-first_divisor.ensures in
     let f = c.in-Some-first_divisor.ensures.first in
-    let x : Term = leading (goal.at.loop-leading-preserved c).In-Some in
+    let s = (goal.at.loop-c-preserved c).In-Some in
+    let d = (goal.at.loop-c-preserved c).After-get-divisor in
+    let x : Term = leading s in
     let g : List Term = c.get-divisor.result.now in
-    let t : List ℕ = quotient x.exponents (leading_monomial g) in
-    let y : Term = term x.coefficient t in
+    let t : List ℕ = quotient c.take_lead.new.out (leading_monomial c.get-divisor.result.now) in
+    let y : Term = term c.in-Some.c t in
     let i : ℕ = c.in-Some-first_divisor.i in
-    let r = c.loop-leading.invariant.run in
+    let r = c.loop-c.invariant.run in
     let ring = c.args.ring.now in
     let pos : 0 < c.args.ring.now.modulus = ring_positive c.args.ring.now c.requires.ring in
-    let place = divisor_is (goal.at.loop-leading-preserved c).After-get-divisor in
-    let out = c.lead_quotient_into.ensures in
-    let items : List (List Term) = c.loop-leading.quotients.items in
-    let now = c.in_ok-keep_term-in-Some-first_divisor.ensures ∙ ap (λ n. set items i (get_or items i [] ++ term x.coefficient n ∷ [])) out in
-    let next = c.in_ok-reduce-in-Some-first_divisor.ensures.ok
-    ∙ ap (λ n. less_multiple c.args.ring.now (left c.loop-leading.rest c.args.f.now) x.coefficient n g) out in
-    let low = subst (λ n. is_too_high (multiple x.coefficient n g) ≡ false) out c.in_ok-reduce-in-Some-first_divisor.ensures.low in
+    let p = leading_poly s in
+    let place = divisor_is d in
+    let first = first_is s c.in-Some-first_divisor.i f.1 in
+    let t_is = step_is s c.get-divisor.result.now c.lead_quotient_into.new.out c.lead_quotient_into.ensures in
+    let items : List (List Term) = c.loop-c.quotients.items in
+    let now = c.in_ok-keep_term-in-Some-first_divisor.ensures ∙ ap (λ n. set items i (get_or items i [] ++ term c.in-Some.c n ∷ [])) t_is in
     let long : length t ≡ places c.args.ring.now =
-    quotient_length x.exponents (leading_monomial g) (places c.args.ring.now) (is_term (goal.at.loop-leading-preserved c).In-Some).places
-    (subst (λ q. length (leading_monomial q) ≡ places c.args.ring.now) place
-    (lead_at_length c.args.ring.now c.args.divisors.now pos c.requires.monic c.in-Some-first_divisor.i f.0)) in
+    quotient_length c.take_lead.new.out (leading_monomial g) (places c.args.ring.now) c.in-Some.ensures.out (lead_long d) in
+    let back : product t (leading_monomial g) ≡ c.take_lead.new.out =
+    quotient_product c.take_lead.new.out (leading_monomial g) (c.in-Some.ensures.out ∙ sym (lead_long d)) (divisor_divides_at d c.take_lead.new.out first) in
+    let behind = subst (λ n. HasLowDegrees (multiple (c.args.ring.now.modulus - c.in-Some.c) n (drop 1 c.get-divisor.result.now))) t_is done.low in
+    let sum = done.sum ∙ ap (λ n. canonical c.args.ring.now
+    (c.take_lead.new.self.sum.terms ++ multiple (c.args.ring.now.modulus - c.in-Some.c) n (drop 1 c.get-divisor.result.now))) t_is in
+    let next : left c.args.ring.now c.reduce.new.rest c.args.f.now ≡ less_multiple c.args.ring.now (left c.args.ring.now c.loop-c.rest c.args.f.now)
+    c.in-Some.c (quotient c.take_lead.new.out (leading_monomial c.get-divisor.result.now)) c.get-divisor.result.now =
+    step_left ring c.args.f.now g c.take_lead.new.self c.reduce.new.rest c.in-Some.c t pos c.requires.poly c.in-Some.ensures.rest (divisor_poly d) long
+    done.from sum c.take_lead.new.out (divisor_some d) (divisor_monic d) back p.canonical.1 c.in-Some.ensures.out
+    ∙ ap (λ k. less_multiple ring k c.in-Some.c t g) (sym c.in-Some.ensures.first) in
+    let low = tail_not_high c.in-Some.c (ring.modulus - c.in-Some.c) c.take_lead.new.out t g (divisor_some d) back p.low.0 behind in
     record {
       run = record {
         quotients = set r.quotients i (get_or r.quotients i [] ++ y ∷ []);
-        run = rw paid.1 (r.run
-            ∙ taken_step c.args.ring.now c.args.divisors.now c.requires.monic r.quotients c.loop-leading.fuel c.loop-leading.remainder
-            (left c.loop-leading.rest c.args.f.now) x c.in-Some.ensures.first i g f.1 f.0 place
-            (left c.reduce.new.rest c.args.f.now) next paid.0 low);
+        run = rw done.paid.1 (r.run
+            ∙ taken_step c.args.ring.now c.args.divisors.now c.requires.monic r.quotients c.loop-c.fuel c.loop-c.remainder
+            (left c.args.ring.now c.loop-c.rest c.args.f.now) x (here s) i g first f.0 place
+            (left c.args.ring.now c.reduce.new.rest c.args.f.now) next done.paid.0 low);
         kept = now ∙ (ap (λ K. set K i (get_or K i [] ++ y ∷ [])) r.kept ∙ front_set c.args.kept i r.quotients y);
         places = length-set r.quotients i (get_or r.quotients i [] ++ y ∷ []) ∙ r.places;
       };
-      rest = c.in_ok-reduce-in-Some-first_divisor.ensures.rest;
-      remainder = c.loop-leading.invariant.remainder;
-      units = omega (arith, paid.1, c.loop-leading.invariant.units);
+      rest = step_rest ring c.args.f.now g c.take_lead.new.self c.reduce.new.rest c.in-Some.c t pos c.requires.poly c.in-Some.ensures.rest (divisor_poly d) long
+          done.from sum done.ring behind;
+      remainder = c.loop-c.invariant.remainder;
+      units = omega (arith, done.paid.1, c.loop-c.invariant.units);
       lengths =
           λ j. rw now
-          (set_keeps (λ q. HaveLength (places c.args.ring.now) q) items i _ j (c.loop-leading.invariant.lengths j)
-          (lengths_append (places c.args.ring.now) (get_or items i []) x.coefficient
-          t (c.loop-leading.invariant.lengths i) long));
+          (set_keeps (λ q. HaveLength (places c.args.ring.now) q) items i _ j (c.loop-c.invariant.lengths j)
+          (lengths_append (places c.args.ring.now) (get_or items i []) c.in-Some.c t (c.loop-c.invariant.lengths i) long));
     }
 
 -- nothing is left
 
-nothing_left : (c : After-from_vec) → left c.loop-leading.rest c.args.f.now ≡ []
+nothing_left : (c : After-from_vec) → left c.args.ring.now c.loop-c.rest c.args.f.now ≡ []
 nothing_left c = c.in_default.ensures.none refl
 
 pub returns-clause-ok : goal.returns-clause-ok
 returns-clause-ok c =
-    let r = c.loop-leading.invariant.run in (
+    let r = c.loop-c.invariant.run in (
       record {
         quotients = r.quotients;
         ends = r.run
             ∙ rw (
               nothing_left (goal.at.returns-clause-ok c).After-from_vec,
-              divided_nothing c.args.ring.now c.args.divisors.now c.requires.monic c.loop-leading.fuel,
+              divided_nothing c.args.ring.now c.args.divisors.now c.requires.monic c.loop-c.fuel,
             )
-            (resumed_done c.loop-leading.remainder r.quotients c.args.divisors.now c.loop-leading.fuel r.places);
+            (resumed_done c.loop-c.remainder r.quotients c.args.divisors.now c.loop-c.fuel r.places);
       },
       c.from_vec.ensures ∙ r.kept,
     )

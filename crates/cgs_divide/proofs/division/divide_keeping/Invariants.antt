@@ -7,15 +7,15 @@ use Rattle.cgs_divide.proofs.ResumedLemmas.{IsResumed}
 use Rattle.cgs_divide.proofs.division.divide_keeping.Given as goal
 
 -- the run is what was found so far, and the run of the terms that are left
-abbrev pub invariant-loop-leading : goal.invariant-loop-leading
-invariant-loop-leading l = record {
+abbrev pub invariant-loop-c : goal.invariant-loop-c
+invariant-loop-c l = record {
   run : IsResumed (divided l.ring l.divisors l.fn.fuel l.f) l.remainder (length l.divisors) l.fn.kept l.quotients.items
-      (divided l.ring l.divisors l.fuel (left l.rest l.f));
+      (divided l.ring l.divisors l.fuel (left l.ring l.rest l.f));
   rest : IsRest l.ring l.f l.rest;
   remainder : HaveLength (places l.ring) l.remainder;
   units : l.fuel ≤ l.fn.fuel;
   lengths : (i : ℕ) → HaveLength (places l.ring) (get_or l.quotients.items i []);
 }
 
-abbrev pub decreases-loop-leading : goal.decreases-loop-leading
-decreases-loop-leading l = l.fuel
+abbrev pub decreases-loop-c : goal.decreases-loop-c
+decreases-loop-c l = l.fuel

@@ -134,6 +134,8 @@ alone = Ended(["solve"], band)
 row("solve: 1 worker", alone, (0,))
 row("solve: 64 workers", Ended(["solve", "--workers", "64"], band), (0,), alone.output)
 row("solve: 64 workers, 64 MB of memory", Ended(["solve", "--workers", "64"], band, memory=64 * MEBIBYTE), (0, 7), alone.output)
+shared = ["env", "MALLOC_ARENA_MAX=1"]
+row("solve: 64 workers, 64 MB of memory, one reserve", Ended(["solve", "--workers", "64"], band, memory=64 * MEBIBYTE, before=shared), (0,), alone.output)
 rows = ["+".join("*".join("x%d" % ((i + j) % 8) for j in range(k)) for i in range(8)) for k in range(1, 8)] + ["x0*x1*x2*x3*x4*x5*x6*x7-1"]
 endless = problem("", " ".join("x%d" % i for i in range(8)), "lex", rows).encode()
 for workers in ["1", "4"]:

@@ -125,12 +125,88 @@ fn deepest_first(rt: HostRuntime) {
     assert!(rt; board.finished());
 }
 
+// Claims a branch for a worker, who has it from then on. Tells whether there was one.
+fn claim_next(
+    rt: &impl Abort,
+    board: &mut Board<Countdown>,
+    worker: u32,
+    out: &mut Vec<(u32, Piece<Countdown>)>,
+) -> bool {
+    assert!(rt; worker < board.workers());
+    let Claimed::Branch(piece) = board.claim(worker) else {
+        return false;
+    };
+    out.push((worker, piece)).expect(rt, "memory");
+    true
+}
+
+// Gives the node of a piece back, which is kept.
+fn give_back(
+    rt: &impl Abort,
+    alloc: Global,
+    board: &mut Board<Countdown>,
+    (worker, piece): (u32, Piece<Countdown>),
+) {
+    let done = finish(alloc, piece).expect(rt, "memory");
+    assert!(rt; worker < board.workers());
+    assert!(rt; matches!(board.give(worker, done), Given::Kept));
+}
+
+// Makes so many claims, by both workers in turn, and so many gives on a new board of the tree of 3. Gives nothing where no calls come to
+// these numbers, else the board and what is out. What was claimed first is given back first, and only where nothing can be claimed, so as
+// many branches as possible are offered by so many gives.
+fn board_after(
+    rt: &impl Abort,
+    alloc: Global,
+    claims: u32,
+    gives: u32,
+) -> Option<(Board<Countdown>, Vec<(u32, Piece<Countdown>)>)> {
+    let mut board = Board::new(alloc, Countdown { n: 3 }, 2).expect(rt, "memory");
+    let mut out = Vec::new(alloc);
+    let mut claimed = 0;
+    let mut given = 0;
+    for _ in 0..u64::from(claims) + u64::from(gives) {
+        if claimed < claims && claim_next(rt, &mut board, claimed % 2, &mut out) {
+            claimed += 1;
+        } else if given < gives && !out.is_empty() {
+            give_back(rt, alloc, &mut board, out.remove(0));
+            given += 1;
+        } else {
+            return None;
+        }
+    }
+    Some((board, out))
+}
+
+// Fails unless each claim is answered by `Stopped`.
+fn is_stopped(rt: &impl Abort, board: &mut Board<Countdown>) {
+    for worker in 0..2 {
+        assert!(rt; worker < board.workers());
+        assert!(rt; matches!(board.claim(worker), Claimed::Stopped));
+    }
+}
+
 #[test]
 fn a_worker_quits(rt: HostRuntime) {
-    let mut board = Board::new(rt.alloc(), Countdown { n: 1 }, 2).expect(&rt, "memory");
-    board.quit(0);
-    assert!(rt; matches!(board.claim(0), Claimed::Stopped));
-    assert!(rt; matches!(board.claim(1), Claimed::Stopped));
+    let alloc = rt.alloc();
+    let mut boards = 0u32;
+    for claims in 0..17 {
+        for gives in 0..claims + 1 {
+            let Some((mut board, out)) = board_after(&rt, alloc, claims, gives) else {
+                continue;
+            };
+            assert!(rt; 0 < board.workers());
+            board.quit(0);
+            is_stopped(&rt, &mut board);
+            for piece in out {
+                give_back(&rt, alloc, &mut board, piece);
+                is_stopped(&rt, &mut board);
+            }
+            assert_eq!(rt; board.gives(), u64::from(claims));
+            boards = boards.saturating_add(1);
+        }
+    }
+    assert_eq!(rt; boards, 87);
 }
 
 #[test]

@@ -281,7 +281,7 @@ fn met(lines: &[Line<'_>]) -> bool {
     }
 }
 
-fn word_list(alloc: Global, texts: &[&[u8]]) -> Result<WordList, AllocError> {
+pub(crate) fn word_list(alloc: Global, texts: &[&[u8]]) -> Result<WordList, AllocError> {
     let mut words = WordList::new(alloc);
     for text in texts {
         let mut word = Word::new(alloc);

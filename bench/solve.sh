@@ -1,5 +1,5 @@
 #!/bin/sh
-# Times `cgs solve` on each problem in examples/ and on systems of two to six parameters modulo 32003: seconds, the greatest
+# Times `cgs solve` on each problem in examples/ and on systems of two to seven parameters modulo 32003: seconds, the greatest
 # resident memory, and the numbers of segments and refused entries. A run is stopped after 60 seconds. Names pick some.
 # Usage: bench/solve.sh [NAME..]
 set -eu

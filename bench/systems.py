@@ -1,4 +1,4 @@
-"""Systems of two to six parameters modulo 32003, which solve.sh and workers.sh time."""
+"""Systems of two to seven parameters modulo 32003, which solve.sh and workers.sh time."""
 from timed import problem
 
 systems = [
@@ -30,6 +30,8 @@ systems = [
     # curves
     ("singular-cubic-curve", "a b", "x y", "lex", ["y^2-x^3-a*x-b", "3*x^2+a", "2*y"]),
     ("conic-and-parabola", "a b c d e f", "x y", "grevlex", ["a*x^2+b*x*y+c*y-1", "d*x^2+e*y+f"]),
+    # an ellipse or hyperbola in its axes, and any other conic
+    ("conics", "a b c d e f s", "x y", "grevlex", ["x^2+s*y^2-1", "a*x^2+b*x*y+c*y^2+d*x+e*y+f"]),
     ("conic-and-line", "a b c d", "x y", "lex", ["a*x^2+b*y^2-1", "c*x+d*y-1"]),
     # steady states of three species, of which each limits itself and meets another (Lotka, Volterra)
     ("lotka-volterra", "a b c d e f", "x y z", "grevlex", ["x-a*x^2-b*x*y", "y-c*x*y-d*y^2", "z-e*x*z-f*z^2"]),

@@ -12,7 +12,7 @@ import os, re, shutil, subprocess, sys, tempfile
 from statistics import median
 from systems import text
 from timed import Run
-crates, picked = sys.argv[1], sys.argv[2:] or ["cosines", "tetrahedron", "cosines-grlex"]
+crates, picked = sys.argv[1], sys.argv[2:] or ["conics", "tetrahedron", "cosines-grlex"]
 program, alone = crates + "/cgs/out/cgs", crates + "/cgs_bench/out/cgs_bench"
 counts, rounds = [1, 2, 4, 8], 5
 

@@ -15,8 +15,8 @@ pub use laws::{divisor_has_mask_within, mask_has_bits};
 pub use masks::{mask, may_divide};
 pub use owned::{Exps, ExpsFault, Powers};
 pub use places::{
-    DegreeFault, MAX_DEGREE, MAX_PLACES, coprime, degree, divides, lcm_into, product_into,
-    quotient_into,
+    DegreeFault, MAX_DEGREE, MAX_PLACES, coprime, degree, divides, lcm_into, low_product_into,
+    product_into, quotient_into,
 };
 
 #[cfg(test)]

@@ -117,7 +117,7 @@ pub fn product_into(a: &[u16], b: &[u16], out: &mut [u16]) -> Result<(), DegreeF
     if degree_of_both(a, b) as u32 > MAX_DEGREE {
         return Err(DegreeFault);
     }
-    add_into(a, b, out);
+    low_product_into(a, b, out);
     Ok(())
 }
 
@@ -139,19 +139,21 @@ fn degree_of_both(a: &[u16], b: &[u16]) -> u16
     total
 }
 
-// Writes the sum at each place into `out`.
-fn add_into(a: &[u16], b: &[u16], out: &mut [u16])
+/// Writes the product of two monomials whose degrees are known to fit into `out`.
+#[inline(always)]
+pub fn low_product_into(a: &[u16], b: &[u16], out: &mut [u16])
     requires same_places { length a.now ≡ length b.now }
     requires out_places { length out.old ≡ length a.now }
-    requires small { monomial.degree a.now + monomial.degree b.now ≤ MAX_DEGREE }
+    requires low { monomial.degree a.now + monomial.degree b.now ≤ MAX_DEGREE }
     ensures { out.new ≡ monomial.product a.now b.now }
 {
+    let places = out.len();
     let mut from = 0;
-    if a.len() >= LANES {
+    if places >= LANES {
         store(product_in_lanes(lanes(a), lanes(b)), out);
         from = LANES;
     }
-    for i in from..a.len() {
+    for i in from..places {
         out[i] = a[i] + b[i];
     }
 }

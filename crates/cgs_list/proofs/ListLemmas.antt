@@ -11,6 +11,19 @@ take_next [] i x e = absurd (cc)
 take_next (y ∷ xs) zero x e = let s : y ≡ x = cc in rw s refl
 take_next (y ∷ xs) (suc i) x e = rw add-one (ap (λ k. y ∷ k) (rw add-one at (take_next xs i x e)))
 
+pub take_next_from : {X : Type 0} (from i : ℕ) (xs : List X) (x : X) → from ≤ i → slice_get xs i ≡ Some x
+    → take (i + 1 - from) (drop from xs) ≡ take (i - from) (drop from xs) ++ x ∷ []
+take_next_from zero i xs x l e = rw (plain (i + 1), plain i) (take_next xs i x e)
+  where
+    plain : (n : ℕ) → n - 0 ≡ n
+    plain n = omega arith
+take_next_from (suc from) zero xs x l e = absurd (omega arith)
+take_next_from (suc from) (suc i) [] x l e = absurd (cc)
+take_next_from (suc from) (suc i) (y ∷ xs) x l e =
+    let s : suc i - suc from ≡ i - from = omega arith in
+    let t : suc i + 1 - suc from ≡ i + 1 - from = omega arith in
+    rw (s, t) (take_next_from from i xs x (omega arith) e)
+
 pub is_false : {all : Type 0} → ¬ all → IsTrue false ↔ all
 is_false never = ((λ e. cc), (λ a. absurd (never a)))
 

@@ -11,7 +11,22 @@ use std::cmp::Ordering;
 
 /// Which of two monomials is greater: the variables' blocks decide, and the parameters' blocks where those are equal
 /// (Becker, Weispfenning, section 5.1). Exponents may be of any size.
+#[inline(always)]
 pub fn compare(order: &BlockOrder, a: &[u16], b: &[u16]) -> Ordering
+    requires first_places { length a.now ≡ order.now.head + order.now.tail }
+    requires second_places { length b.now ≡ order.now.head + order.now.tail }
+    ensures { result ≡ compared order.now a.now b.now }
+{
+    match order.kind {
+        // Two blocks that go place by place are compared as one.
+        Kind::Lex => return compare_places(a, b),
+        Kind::GrLex | Kind::GrevLex => {}
+    }
+    compare_by_blocks(order, a, b)
+}
+
+// The comparison block by block.
+fn compare_by_blocks(order: &BlockOrder, a: &[u16], b: &[u16]) -> Ordering
     requires first_places { length a.now ≡ order.now.head + order.now.tail }
     requires second_places { length b.now ≡ order.now.head + order.now.tail }
     ensures { result ≡ compared order.now a.now b.now }
@@ -36,14 +51,12 @@ fn compare_blocks(kind: Kind, a: &[u16], b: &[u16]) -> Ordering
             Ordering::Equal => compare_places(a, b),
             decided => decided,
         },
-        Kind::GrevLex => match compare_degrees(a, b) {
-            Ordering::Equal => compare_from_last(a, b),
-            decided => decided,
-        },
+        Kind::GrevLex => compare_from_last(a, b),
     }
 }
 
 // The first place where two blocks differ decides.
+#[inline(always)]
 fn compare_places(a: &[u16], b: &[u16]) -> Ordering
     requires same_places { length a.now ≡ length b.now }
     ensures { result ≡ slice_cmp nat_cmp a.now b.now }
@@ -72,16 +85,28 @@ fn compare_degrees(a: &[u16], b: &[u16]) -> Ordering
     first.cmp(&second)
 }
 
-// Of two blocks of one degree the greater has the smaller exponent at the last place where they differ.
+// The degrees decide, and where they are equal the last place where two blocks differ: the smaller exponent is that of the greater. One pass
+// finds both.
 fn compare_from_last(a: &[u16], b: &[u16]) -> Ordering
     requires same_places { length a.now ≡ length b.now }
-    requires same_degree { sum a.now ≡ sum b.now }
+    requires short { length a.now < 2 ^ 40 }
     ensures { result ≡ slice_cmp nat_cmp (block_key Kind.GrevLex a.now) (block_key Kind.GrevLex b.now) }
 {
-    for i in (0..a.len()).rev() {
-        if a[i] != b[i] {
-            return b[i].cmp(&a[i]);
+    let mut degree: u64 = 0;
+    let mut other_degree: u64 = 0;
+    let mut last = 0;
+    let mut other_last = 0;
+    for (i, &x) in a.iter().enumerate() {
+        let y = b[i];
+        degree += x as u64;
+        other_degree += y as u64;
+        if x != y {
+            last = x;
+            other_last = y;
         }
     }
-    Ordering::Equal
+    match degree.cmp(&other_degree) {
+        Ordering::Equal => other_last.cmp(&last),
+        decided => decided,
+    }
 }

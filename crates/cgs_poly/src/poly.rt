@@ -51,7 +51,7 @@ impl Poly {
         let zeros = [0; MAX_PLACES];
         let places = ring.places();
         let mut draft = Draft::with_room(alloc, places, 1, places)?;
-        draft.push(ring.modulus.of_u64(1), &zeros[..places])?;
+        draft.push(ring.modulus.of_u64(1), &zeros[..places]);
         Ok(Poly {
             terms: draft.finish(),
         })
@@ -151,7 +151,7 @@ pub(crate) fn single(alloc: Global, ring: &Ring, c: Elem, m: &[u16]) -> Result<P
         return Ok(Poly::zero(alloc));
     }
     let mut draft = Draft::with_room(alloc, m.len(), 1, m.len())?;
-    draft.push(c, m)?;
+    draft.push(c, m);
     Ok(Poly {
         terms: draft.finish(),
     })

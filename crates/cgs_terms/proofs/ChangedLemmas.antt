@@ -10,7 +10,7 @@ use Rattle.cgs_exps.specs.Monomial.{product}
 use Rattle.cgs_exps.proofs.MonomialLemmas.{product_length}
 use Rattle.cgs_order.specs.TermOrder.{compared}
 use Rattle.cgs_terms.specs.declared.ring.Ring.{Ring}
-use Rattle.cgs_terms.specs.Polynomial.{Term, places, order_of, total, coefficient, StartsBelow, IsCanonical, canonical}
+use Rattle.cgs_terms.specs.Polynomial.{Term, places, order_of, total, StartsBelow, IsCanonical, canonical}
 use Rattle.cgs_terms.specs.Product.{scaled, multiple}
 use Rattle.cgs_terms.specs.Merge.{changed}
 use Rattle.cgs_terms.proofs.SumLemmas.{Alike, alike_same, alike_back, alike_append, total_scaled}

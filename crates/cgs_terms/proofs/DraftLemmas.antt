@@ -1,11 +1,21 @@
 -- A draft with further terms at its end.
-use Rattle.std.proofs.Common.{ℕ, ◌≡◌, ◌≤◌, ◌-◌, ◌⊎◌, inl, inr, ◌*◌, List, [], ◌∷◌, ◌++◌, length, take, drop, refl, sym, ap, ◌∙◌, subst, arith}
+use Rattle.std.proofs.Common.{ℕ, ◌≡◌, ◌≤◌, ◌+◌, ◌-◌, ◌⊎◌, inl, inr, ◌*◌, List, [], ◌∷◌, ◌++◌, length, take}
+use Rattle.std.proofs.Common.{drop, refl, sym, ap, ◌∙◌, subst, arith, append_assoc}
+use Rattle.std.specs.Prelude.{vec_len, vec_capacity}
+use Rattle.std.proofs.Math.Nat.{mul-le-mul_right, add-mul}
 use Rattle.std.proofs.lemmas.List.{length-append, length-take, length-drop, take_all, nil_from_length}
 use Rattle.cgs_terms.specs.declared.draft.Draft.{Draft}
 use Rattle.cgs_terms.specs.Polynomial.{Term, term}
 use Rattle.cgs_terms.specs.Flat.{terms_of}
-use Rattle.cgs_terms.specs.Draft.{IsFlat, Appended, HaveLength}
+use Rattle.cgs_terms.specs.Draft.{terms_in, IsFlat, HasRoom, Appended, HaveLength}
 use Rattle.cgs_terms.proofs.FlatLemmas.{FlatFor, terms_append, terms_take, terms_drop, take_flat, drop_flat, count_of}
+
+pub appended_both : {a b c : Draft} {f g : List Term} → Appended a b f → Appended b c g → Appended a c (f ++ g)
+appended_both {a} {b} {c} {f} {g} h k = record {
+  flat = k.flat;
+  places = k.places ∙ h.places;
+  terms = k.terms ∙ (ap (λ e. e ++ g) h.terms ∙ append_assoc (terms_in a) f g);
+}
 
 -- further coefficients with their exponents
 pub appended : (a b : Draft) (ds ns : List ℕ) → IsFlat a → length ns ≡ length ds * a.places → b.places ≡ a.places
@@ -22,6 +32,19 @@ pub pushed : (a b : Draft) (c : ℕ) (m : List ℕ) → IsFlat a → length m �
 pushed a b c m h k p cs es =
     let t : take a.places m ≡ m = take_all a.places m (omega arith) in
     subst (λ n. Appended a b (term c n ∷ [])) t (appended a b (c ∷ []) m h (omega arith) p cs es)
+
+-- room
+
+pub less_room : (d : Draft) (m n : ℕ) → m ≤ n → HasRoom d n → HasRoom d m
+less_room d m n l h = record {
+  coefficients = omega (arith, l, h.coefficients);
+  exponents = omega (arith, mul-le-mul_right d.places l, h.exponents);
+}
+
+-- the numbers of coefficients and exponents of terms of one length
+pub record SoMany (p : ℕ) (cs es : List ℕ) (f : List Term) : Type 0 where
+  pub coefficients : length cs ≡ length f
+  pub exponents : length es ≡ length f * p
 
 -- two flat lists of the same monomials have the same number of places, if there is a monomial
 places_same : (p q : ℕ) (cs es : List ℕ) → length es ≡ length cs * q → HaveLength p (terms_of q cs es) → (cs ≡ []) ⊎ (q ≡ p)
@@ -62,7 +85,7 @@ extended a b q from to cs es f h v k l r w p x y =
         (appended a b [] [] h (omega arith) p (x ∙ ap (λ l. a.coefficients.items ++ l) none) (y ∙ ap (λ l. a.exponents.items ++ l) empty))
 
 -- flat lists with as many exponents a term as a further monomial has
-flat_for : (p q : ℕ) (cs es : List ℕ) (f : List Term) → terms_of q cs es ≡ f → length es ≡ length cs * q → HaveLength p f → FlatFor p cs es f
+pub flat_for : (p q : ℕ) (cs es : List ℕ) (f : List Term) → terms_of q cs es ≡ f → length es ≡ length cs * q → HaveLength p f → FlatFor p cs es f
 flat_for p q cs es f v k l = elim (places_same p q cs es k (subst (λ g. HaveLength p g) (sym v) l)) [ inl e ↦ nothing e | inr e ↦ some e ]
   where
     nothing : cs ≡ [] → FlatFor p cs es f
@@ -73,6 +96,15 @@ flat_for p q cs es f v k l = elim (places_same p q cs es k (subst (λ g. HaveLen
 
     some : q ≡ p → FlatFor p cs es f
     some e = record { flat = subst (λ n. length es ≡ length cs * n) e k; terms = subst (λ n. terms_of n cs es ≡ f) e v }
+
+pub so_many : (p q : ℕ) (cs es : List ℕ) (f : List Term) → terms_of q cs es ≡ f → length es ≡ length cs * q → HaveLength p f → SoMany p cs es f
+so_many p q cs es f v k l =
+    let n : length cs ≡ length f = sym (count_of q cs es f v) in
+    record { coefficients = n; exponents = (flat_for p q cs es f v k l).flat ∙ ap (λ n. n * p) n }
+
+pub room_for_both : (d : Draft) (a b : ℕ) → vec_len d.coefficients + (a + b) ≤ vec_capacity d.coefficients
+    → vec_len d.exponents + (a * d.places + b * d.places) ≤ vec_capacity d.exponents → HasRoom d (a + b)
+room_for_both d a b h k = record { coefficients = h; exponents = omega (arith, add-mul a b d.places, k) }
 
 pub pushed_at_end : (q c : ℕ) (cs es m : List ℕ) (f : List Term) → terms_of q cs es ≡ f → length es ≡ length cs * q → HaveLength (length m) f
     → FlatFor (length m) (cs ++ c ∷ []) (es ++ m) (f ++ term c m ∷ [])

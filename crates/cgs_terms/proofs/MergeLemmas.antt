@@ -3,7 +3,7 @@ use Rattle.std.proofs.Common.{ℕ, ◌≡◌, ◌+◌, ◌-◌, ◌*◌, ◌%◌
 use Rattle.std.proofs.Common.{append_assoc, refl, sym, ap, ◌∙◌, subst, arith, eqb}
 use Rattle.std.proofs.Math.Nat.{mod-eq_of_lt}
 use Rattle.std.proofs.lemmas.Bool.{ne_eqb}
-use Rattle.std.proofs.lemmas.List.{append-nil, drop-drop, drop_all, take_rest}
+use Rattle.std.proofs.lemmas.List.{append-nil, drop-drop, drop_all}
 use Rattle.std.specs.Prelude.{slice_get}
 use Rattle.std.specs.declared.cmp.Ordering.{Ordering}
 use Rattle.std.specs.declared.cmp.Ordering.TheVariants.{Less, Equal, Greater}
@@ -149,12 +149,10 @@ module _ (ring : Ring) (pos : 0 < ring.modulus) where
       cc
 
   -- the end of a merge: the second list is used up
-  pub merge_end : (f g : List Term) (i j : ℕ) → IsCanonical ring f → length g ≤ j → i ≤ length f
-      → (before after all : List Term) → after ≡ before ++ take (length f - i) (drop i f)
-      → before ++ canonical ring (drop i f ++ drop j g) ≡ all → after ≡ all
-  merge_end f g i j a l k before after all d s =
+  pub merge_end : (f g : List Term) (i j : ℕ) → IsCanonical ring f → length g ≤ j
+      → (before all : List Term) → before ++ canonical ring (drop i f ++ drop j g) ≡ all → before ++ drop i f ≡ all
+  merge_end f g i j a l before all s =
       let none : drop j g ≡ [] = drop_all j g l in
       let nil : drop i f ++ drop j g ≡ drop i f = ap (λ h. drop i f ++ h) none ∙ append-nil (drop i f) in
       let itself : canonical ring (drop i f) ≡ drop i f = canonical_itself ring (drop i f) pos (canonical_drop ring i f a) in
-      let rest : take (length f - i) (drop i f) ≡ drop i f = take_rest f i in
       cc

@@ -1,12 +1,12 @@
 -- The term at a place of a list: what is behind it, and what holds of it.
 use Rattle.std.proofs.Common.{ℕ, zero, suc, ◌≡◌, ◌+◌, ◌-◌, ◌<◌, ◌≤◌, max, Bool, true, false, Option, Some, None, cond, List, [], ◌∷◌, length, take, drop, refl}
-use Rattle.std.proofs.Common.{sym, ap, subst, arith, add-one}
+use Rattle.std.proofs.Common.{ap, subst, arith, add-one}
 use Rattle.std.specs.Prelude.{slice_get, IfSome}
 use Rattle.std.specs.declared.cmp.Ordering.{Ordering}
 use Rattle.std.specs.declared.cmp.Ordering.TheVariants.{Less, Equal, Greater}
 use Rattle.std.specs.Ordering.{nat_cmp, is_eq}
 use Rattle.std.specs.Cmp.Lexicographic.{slice_cmp}
-use Rattle.cgs_list.proofs.ListLemmas.{drop_at}
+use Rattle.cgs_list.proofs.ListLemmas.{take_next_from, drop_at, all_push}
 use Rattle.cgs_order.specs.declared.block.BlockOrder.{BlockOrder}
 use Rattle.cgs_order.specs.TermOrder.{compared}
 use Rattle.cgs_order.proofs.OrderLemmas.{cmp_self, cmp_equal}
@@ -52,25 +52,14 @@ pub canonical_length : (ring : Ring) (f : List Term) → IsCanonical ring f → 
 canonical_length ring [] h = tt
 canonical_length ring (x ∷ f) h = (h.2, canonical_length ring f h.4)
 
+pub canonical_rows : (ring : Ring) (p : ℕ) (f g : List Term) → p ≡ places ring → g ≡ f → IsCanonical ring f → HaveLength p g
+canonical_rows ring p f g e d h = rw (e, d) (canonical_length ring f h)
+
 -- a front that is above m
 
 pub above_more : (order : BlockOrder) (m : List ℕ) (from i : ℕ) (f : List Term) (x : Term) → from ≤ i → slice_get f i ≡ Some x
     → compared order x.exponents m ≡ Greater → AreAbove order m (take (i - from) (drop from f)) → AreAbove order m (take (i + 1 - from) (drop from f))
-above_more order m zero i f x l e g h = rw (plain (i + 1), add-one) (front i f e (rw (plain i) at h))
-  where
-    plain : (n : ℕ) → n - 0 ≡ n
-    plain n = omega arith
-
-    front : (i : ℕ) (f : List Term) → slice_get f i ≡ Some x → AreAbove order m (take i f) → AreAbove order m (take (suc i) f)
-    front i [] e h = absurd (cc)
-    front zero (y ∷ f) e h = (subst (λ (z : Term). compared order z.exponents m ≡ Greater) (sym (some_same y x e)) g, tt)
-    front (suc i) (y ∷ f) e h = (h.0, front i f e h.1)
-above_more order m (suc from) zero f x l e g h = absurd (omega arith)
-above_more order m (suc from) (suc i) [] x l e g h = absurd (cc)
-above_more order m (suc from) (suc i) (y ∷ f) x l e g h =
-    let s : suc i - suc from ≡ i - from = omega arith in
-    let t : suc i + 1 - suc from ≡ i + 1 - from = omega arith in
-    rw t (above_more order m from i f x (omega arith) e g (rw s at h))
+above_more order m from i f x l e g h = rw (take_next_from from i f x l e) (all_push (λ y. compared order y.exponents m ≡ Greater) _ x h g)
 
 pub stops_at : (order : BlockOrder) (m : List ℕ) (i : ℕ) (f : List Term) (x : Term) → slice_get f i ≡ Some x
     → (compared order x.exponents m ≡ Greater → ⊥) → StartsNotAbove order m (drop i f)

@@ -1,9 +1,9 @@
 //! Terms as they are put together, one after the other, with room for all of them from the start.
 
-ghost use Rattle.std.specs.Prelude.{◌≡◌, ◌≤◌, ◌<◌, ◌+◌, [], ◌∷◌, ◌++◌, length, take, drop, ◌-◌, OnOk, IfOk, IfSome};
+ghost use Rattle.std.specs.Prelude.{◌≡◌, ◌≤◌, ◌<◌, ◌+◌, ◌*◌, ℕ, [], ◌∷◌, ◌++◌, length, take, drop, ◌-◌, vec_len, vec_capacity, OnOk, IfOk, IfSome};
 ghost use Rattle.cgs_terms.specs.Polynomial.{term};
 ghost use Rattle.cgs_terms.specs.Merge.{joined};
-ghost use Rattle.cgs_terms.specs.Draft.{terms_in, IsFlat, Appended, HaveLength};
+ghost use Rattle.cgs_terms.specs.Draft.{terms_in, IsFlat, HasRoom, Appended, HaveLength};
 
 use crate::flat::{Flat, coefficients_part, part};
 use crate::list::TermList;
@@ -30,6 +30,7 @@ impl Draft {
         ensures none { IfOk result (λ draft. terms_in draft ≡ []) }
         ensures flat { IfOk result IsFlat }
         ensures places { IfOk result (λ draft. draft.places ≡ places) }
+        ensures room { IfOk result (λ draft. (n : ℕ) → n ≤ coefficients → n * places ≤ exponents → HasRoom draft n) }
     {
         Ok(Draft {
             coefficients: Vec::with_capacity(alloc, coefficients)?,
@@ -48,10 +49,12 @@ impl Draft {
         ensures none { IfOk result (λ draft. terms_in draft ≡ []) }
         ensures flat { IfOk result IsFlat }
         ensures places { IfOk result (λ draft. draft.places ≡ places) }
+        ensures room { IfOk result (λ draft. HaveLength places f.now → HaveLength places g.now → HasRoom draft (length f.now + length g.now)) }
     {
         let coefficients = f.coefficients.len() + g.coefficients.len();
         let exponents = f.exponents.len() + g.exponents.len();
-        Draft::with_room(alloc, places, coefficients, exponents)
+        let draft = Draft::with_room(alloc, places, coefficients, exponents)?;
+        Ok(draft)
     }
 
     /// No terms, in the memory of a list, which grows where it has no room for all terms of two lists.
@@ -64,6 +67,7 @@ impl Draft {
         ensures none { IfOk result (λ draft. terms_in draft ≡ []) }
         ensures flat { IfOk result IsFlat }
         ensures places { IfOk result (λ draft. draft.places ≡ places) }
+        ensures room { IfOk result (λ draft. HaveLength places f.now → HaveLength places g.now → HasRoom draft (length f.now + length g.now)) }
     {
         let mut coefficients = list.coefficients;
         let mut exponents = list.exponents;
@@ -78,18 +82,17 @@ impl Draft {
         })
     }
 
-    /// Puts a term at the end.
-    pub fn push(&mut self, c: Elem, m: &[u16]) -> Result<(), AllocError>
+    /// Puts a term at the end, for which there is room.
+    #[inline(always)]
+    pub fn push(&mut self, c: Elem, m: &[u16])
         requires flat { IsFlat self.old }
         requires places { length m.now ≡ self.old.places }
-        ensures { OnOk result (Appended self.old self.new (term c m.now ∷ [])) }
+        requires room { HasRoom self.old 1 }
+        ensures appended { Appended self.old self.new (term c m.now ∷ []) }
+        ensures room { (n : ℕ) → HasRoom self.old (n + 1) → HasRoom self.new n }
     {
-        self.coefficients.push(c)?;
-        // Exponents are few: pushing each takes less time than a call that copies them all.
-        for &x in m {
-            self.exponents.push(x)?;
-        }
-        Ok(())
+        self.coefficients.push_reserved(c);
+        push_row(&mut self.exponents, m);
     }
 
     /// Puts a term at the end whose monomial is given in two parts.
@@ -115,11 +118,6 @@ impl Draft {
         if from == to {
             return Ok(());
         }
-        // Most runs are of one term, which is pushed in less time than slices are copied.
-        if to - from == 1 {
-            let term = f.term(from);
-            return self.push(term.coefficient, term.exponents);
-        }
         self.coefficients
             .extend_from_slice(coefficients_part(f.coefficients, from, to))?;
         self.exponents
@@ -127,28 +125,25 @@ impl Draft {
         Ok(())
     }
 
-    /// Puts a term at the end, together with a term of the same monomial if there is one with this coefficient.
-    pub fn push_joined(
-        &mut self,
-        ring: &Ring,
-        met: Option<Elem>,
-        c: Elem,
-        m: &[u16],
-    ) -> Result<(), AllocError>
+    /// Puts a term at the end, for which there is room, together with a term of the same monomial if there is one with this
+    /// coefficient.
+    #[inline(always)]
+    pub fn push_joined(&mut self, ring: &Ring, met: Option<Elem>, c: Elem, m: &[u16])
         requires flat { IsFlat self.old }
         requires places { length m.now ≡ self.old.places }
         requires met { IfSome met (λ d. d < ring.now.modulus) }
         requires below { c < ring.now.modulus }
-        ensures { OnOk result (Appended self.old self.new (joined ring.now c m.now met)) }
+        requires room { HasRoom self.old 1 }
+        ensures appended { Appended self.old self.new (joined ring.now c m.now met) }
+        ensures room { (n : ℕ) → HasRoom self.old (n + 1) → HasRoom self.new n }
     {
         let Some(other) = met else {
             return self.push(c, m);
         };
         let sum = ring.modulus.add(other, c);
-        if sum.number() == 0 {
-            return Ok(());
+        if sum.number() != 0 {
+            self.push(sum, m);
         }
-        self.push(sum, m)
     }
 
     /// The list of these terms.
@@ -161,5 +156,19 @@ impl Draft {
             exponents: self.exponents,
             places: self.places,
         }
+    }
+}
+
+/// Puts the exponents of a monomial at the end, for which there is room. They are few: pushing each takes less time than a call that copies
+/// them all.
+#[inline(always)]
+pub(crate) fn push_row(exponents: &mut Vec<u16>, m: &[u16])
+    requires room { vec_len exponents.old + length m.now ≤ vec_capacity exponents.old }
+    ensures items { exponents.new.items ≡ exponents.old.items ++ m.now }
+    ensures len { vec_len exponents.new ≡ vec_len exponents.old + length m.now }
+    ensures capacity { vec_capacity exponents.new ≡ vec_capacity exponents.old }
+{
+    for &x in m {
+        exponents.push_reserved(x);
     }
 }

@@ -4,6 +4,7 @@ ghost use Rattle.std.specs.Prelude.{◌≡◌, ◌≤◌, ◌<◌, ◌*◌, ◌-
 ghost use Rattle.cgs_terms.specs.Polynomial.{term, greatest_degree};
 ghost use Rattle.cgs_terms.specs.Product.{top_degree};
 ghost use Rattle.cgs_terms.specs.Flat.{terms_of};
+ghost use Rattle.cgs_terms.specs.Draft.{HaveLength};
 ghost use Rattle.cgs_terms.specs.Merge.{EachTerm};
 
 use cgs_exps::{MAX_DEGREE, degree};
@@ -50,7 +51,21 @@ impl<'a> Flat<'a> {
         }
     }
 
+    /// The same terms, each with so many exponents. Told so where the number is a constant, a compiler unrolls the loops over them.
+    #[inline(always)]
+    pub(crate) fn with_places(&self, places: usize) -> Flat<'a>
+        requires { HaveLength places self.now }
+        ensures { result ≡ self.now }
+    {
+        Flat {
+            coefficients: self.coefficients,
+            exponents: self.exponents,
+            places,
+        }
+    }
+
     /// The number of terms.
+    #[inline(always)]
     pub fn len(&self) -> usize
         ensures { result ≡ length self.now }
     {
@@ -58,6 +73,7 @@ impl<'a> Flat<'a> {
     }
 
     /// The term at a place, counted from 0.
+    #[inline(always)]
     pub fn term(&self, i: usize) -> Term<'a>
         requires { i < length self.now }
         ensures { slice_get self.now i ≡ Some (term result.coefficient result.exponents.now) }
@@ -103,6 +119,7 @@ impl<'a> Flat<'a> {
 }
 
 // The term at a place of two lists.
+#[inline(always)]
 fn term_at<'a>(coefficients: &'a [Elem], exponents: &'a [u16], places: usize, i: usize) -> Term<'a>
     requires flat { length exponents.now ≡ length coefficients.now * places }
     requires within { i < length coefficients.now }
@@ -124,6 +141,7 @@ pub(crate) fn coefficients_part(coefficients: &[Elem], from: usize, to: usize) -
 }
 
 // The exponents of the monomials from one place up to another.
+#[inline(always)]
 pub(crate) fn part(exponents: &[u16], places: usize, from: usize, to: usize) -> &[u16]
     requires rising { from ≤ to }
     requires within { to * places ≤ length exponents.now }

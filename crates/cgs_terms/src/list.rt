@@ -1,15 +1,19 @@
 //! A list of terms, kept in two flat vectors.
 
-ghost use Rattle.std.specs.Prelude.{◌≡◌, ◌<◌, ◌↔◌, [], ◌∷◌, ◌++◌, Some, length, slice_get, IsTrue, OnOk, OnErr};
+ghost use Rattle.std.specs.Prelude.{◌≡◌, ◌<◌, ◌≤◌, ◌+◌, ◌↔◌, [], ◌∷◌, ◌++◌, Some, length, slice_get, vec_len, vec_capacity, IsTrue, OnOk, OnErr};
 ghost use Rattle.cgs_terms.specs.Polynomial.{term};
 ghost use Rattle.cgs_terms.specs.Draft.{HaveLength};
 ghost use Rattle.cgs_terms.specs.Flat.{with_coefficient, coefficients_of, exponents_of};
 
+use crate::draft::push_row;
 use crate::flat::{Flat, Term};
 use cgs_field::Elem;
 use cgs_list::Duplicate;
 use std::alloc::{AllocError, Global};
 use std::marker::Model;
+
+// For how many terms a list takes room at its first one.
+const FIRST_ROOM: usize = 16;
 
 /// Terms in any order, also several of one monomial, which contracts see as their list.
 #[derive(Debug, Drop)]
@@ -89,9 +93,9 @@ impl TermList {
         ensures ok { OnOk result (self.new ≡ self.old ++ term c m.now ∷ []) }
         ensures err { OnErr result (self.new ≡ self.old) }
     {
-        self.coefficients.reserve(1)?;
-        self.exponents.extend_from_slice(m)?;
-        self.coefficients.push(c)?;
+        reserve_term(&mut self.coefficients, &mut self.exponents, m.len())?;
+        self.coefficients.push_reserved(c);
+        push_row(&mut self.exponents, m);
         self.places = m.len();
         Ok(())
     }
@@ -110,6 +114,27 @@ impl TermList {
     {
         self.exponents == other.exponents && self.coefficients == other.coefficients
     }
+}
+
+// Takes room for a term with so many exponents, and for `FIRST_ROOM` of them where there is none yet.
+#[inline(always)]
+fn reserve_term(
+    coefficients: &mut Vec<Elem>,
+    exponents: &mut Vec<u16>,
+    places: usize,
+) -> Result<(), AllocError>
+    ensures coefficients { coefficients.new.items ≡ coefficients.old.items }
+    ensures exponents { exponents.new.items ≡ exponents.old.items }
+    ensures first { OnOk result (vec_len coefficients.new < vec_capacity coefficients.new) }
+    ensures second { OnOk result (vec_len exponents.new + places ≤ vec_capacity exponents.new) }
+{
+    if coefficients.is_empty() {
+        coefficients.reserve(FIRST_ROOM)?;
+        exponents.reserve(places.saturating_mul(FIRST_ROOM))?;
+    }
+    coefficients.reserve(1)?;
+    exponents.reserve(places)?;
+    Ok(())
 }
 
 impl Duplicate for TermList {

@@ -4,7 +4,7 @@ ghost use Rattle.std.specs.Prelude.{◌≡◌, ◌<◌, ◌≤◌, ◌*◌, ◌%
 ghost use Rattle.cgs_exps.specs.Monomial.{product};
 ghost use Rattle.cgs_terms.specs.Merge.{CanMultiply};
 
-use cgs_exps::{MAX_PLACES, product_into};
+use cgs_exps::{MAX_PLACES, low_product_into};
 use cgs_field::{Elem, Modulus};
 
 /// A factor of all terms of a list.
@@ -109,7 +109,7 @@ impl<'f> Multiple for Factor<'f> {
 
     fn prepare(&self, _modulus: Modulus, _c: Elem, m: &[u16], room: &mut [u16; MAX_PLACES]) {
         let product = &mut room[..m.len()];
-        let _low = product_into(self.exponents, m, product);
+        low_product_into(self.exponents, m, product);
     }
 
     fn times_monomial<'a>(&self, m: &'a [u16], room: &'a [u16; MAX_PLACES]) -> &'a [u16] {

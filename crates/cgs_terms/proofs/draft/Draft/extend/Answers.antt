@@ -1,7 +1,5 @@
-use Rattle.std.proofs.Common.{◌++◌, ◌-◌, arith, ap, refl, ◌∙◌}
-use Rattle.cgs_terms.specs.Polynomial.{term}
+use Rattle.std.proofs.Common.{◌++◌, arith, ap, refl, ◌∙◌}
 use Rattle.cgs_terms.proofs.FlatLemmas.{count_of, part_fits}
-use Rattle.cgs_terms.proofs.PlaceLemmas.{length_at, take_one}
 use Rattle.cgs_terms.proofs.DraftLemmas.{extended}
 use Rattle.cgs_terms.proofs.draft.Draft.extend.Goals as goal
 
@@ -13,16 +11,6 @@ coefficients_part-requires-clause-within c =
 pub part-requires-clause-within : goal.part-requires-clause-within
 part-requires-clause-within c =
     part_fits c.f.inside.places c.args.to c.f.inside.coefficients.now c.f.inside.exponents.now c.args.f.now c.f.view_is c.f.invariant c.requires.within
-
-pub push-requires-clause-places : goal.push-requires-clause-places
-push-requires-clause-places c =
-    let x = term c.term-term.result.coefficient c.term-term.result.exponents.now in
-    length_at c.args.self.now.places c.args.from c.args.f.now x c.requires.places c.term-term.ensures
-
-pub returns-then-to-from-eq1 : goal.returns-then-to-from-eq1
-returns-then-to-from-eq1 c =
-    let x = term c.term-term.result.coefficient c.term-term.result.exponents.now in
-    rw (take_one c.args.f.now c.args.from (c.args.to - c.args.from) x c.term-term.ensures c.if-to-from-eq1.true) c.push.ensures
 
 pub returns : goal.returns
 returns c =

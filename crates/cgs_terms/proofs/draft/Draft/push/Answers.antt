@@ -1,11 +1,13 @@
-use Rattle.std.proofs.Common.{◌++◌, ap, ◌∙◌, arith}
-use Rattle.std.proofs.lemmas.List.{take_all}
+use Rattle.std.proofs.Common.{refl, arith, add-one}
 use Rattle.cgs_terms.proofs.DraftLemmas.{pushed}
 use Rattle.cgs_terms.proofs.draft.Draft.push.Goals as goal
 
-pub returns : goal.returns
-returns c =
-    let loop = c.loop-x.invariant in
-    let all = take_all c.loop-x.x-index c.args.m.now (omega (arith, c.loop-x-test.false)) in
-    pushed c.args.self.now c.loop-x.self c.args.c c.args.m.now c.requires.flat c.requires.places loop.places (loop.coefficients ∙ c.in_ok-push.ensures.items)
-    (loop.exponents ∙ ap (λ m. c.args.self.now.exponents.items ++ m) all)
+pub returns-clause-appended : goal.returns-clause-appended
+returns-clause-appended c =
+    pushed c.args.self.now _ c.args.c c.args.m.now c.requires.flat c.requires.places refl c.push_reserved.ensures.items c.push_row.ensures.items
+
+pub returns-clause-room : goal.returns-clause-room
+returns-clause-room c n room = record {
+  coefficients = omega (arith, c.push_reserved.ensures.len, c.push_reserved.ensures.capacity, room.coefficients);
+  exponents = omega (arith, c.push_row.ensures.len, c.push_row.ensures.capacity, rw add-one at room.exponents, c.requires.places);
+}

@@ -14,7 +14,7 @@ use cgs_exps::degree;
 use cgs_field::{Elem, Modulus};
 use cgs_order::BlockOrder;
 use cgs_terms::{Flat, Ring, TermList};
-use std::alloc::Global;
+use std::alloc::{AllocError, Global};
 use std::marker::Model;
 
 /// A sum, which contracts see as its canonical list of terms.
@@ -84,6 +84,29 @@ impl Bucket {
         if g.exceeds(degree(m)) {
             return Err(BucketFault::Degree);
         }
+        self.add_low_multiple(c, m, coefficients, exponents)?;
+        Ok(())
+    }
+
+    /// Adds c times m times the terms given, where the degrees are known to fit. After an error the sum is as before.
+    pub fn add_low_multiple(
+        &mut self,
+        c: Elem,
+        m: &[u16],
+        coefficients: &[Elem],
+        exponents: &[u16],
+    ) -> Result<(), AllocError>
+        requires positive { 0 < c }
+        requires below { c < self.old.ring.modulus }
+        requires places { length m.now ≡ places self.old.ring }
+        requires flat { length exponents.now ≡ length coefficients.now * places self.old.ring }
+        requires poly { IsPoly self.old.ring (terms_of (places self.old.ring) coefficients.now exponents.now) }
+        requires low { HasLowDegrees (multiple c m.now (terms_of (places self.old.ring) coefficients.now exponents.now)) }
+        ensures ring { self.new.ring ≡ self.old.ring }
+        ensures ok { OnOk result (self.new.terms ≡ canonical self.old.ring (self.old.terms ++ multiple c m.now (terms_of (places self.old.ring) coefficients.now exponents.now))) }
+        ensures err { OnErr result (self.new ≡ self.old) }
+    {
+        let g = Flat::new(coefficients, exponents, self.ring.places());
         add(
             self.alloc,
             &self.ring,
@@ -92,8 +115,7 @@ impl Bucket {
             c,
             m,
             &g,
-        )?;
-        Ok(())
+        )
     }
 
     /// The term with the greatest monomial, which stays in the sum. No memory is taken.

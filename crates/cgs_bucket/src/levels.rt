@@ -41,7 +41,7 @@ pub(crate) fn add(
         exponents: m,
     };
     let n = levels.len();
-    if n > 0 && levels[n - 1].len() / 2 <= g.len() {
+    if n > 0 && levels[n - 1].len() / 3 <= g.len() {
         let sum = merged(alloc, ring, spare, &levels[n - 1].flat(), g, &factor)?;
         *spare = levels[n - 1].renew(sum);
         return Ok(());

@@ -7,6 +7,7 @@ pub mod ResumedLemmas
 pub mod RestLemmas
 pub mod StepLemmas
 pub mod TailLemmas
+pub mod TopLemmas
 pub mod MonicLemmas
 pub mod MinimalLemmas
 pub mod AutoreductionRunLemmas

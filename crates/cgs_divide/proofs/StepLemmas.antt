@@ -11,13 +11,11 @@ use Rattle.cgs_poly.specs.Polynomial.{Term, term, HasLowDegrees}
 use Rattle.cgs_poly.specs.Draft.{HaveLength}
 use Rattle.cgs_poly.specs.declared.fault.PolyFault.{PolyFault}
 use Rattle.cgs_poly.specs.declared.fault.PolyFault.TheVariants as fault
-use Rattle.cgs_bucket.specs.declared.fault.BucketFault.{BucketFault}
-use Rattle.cgs_bucket.specs.declared.fault.BucketFault.TheVariants as bucket
 use Rattle.cgs_poly.specs.Product.{multiple, leading_monomial}
 use Rattle.cgs_algebra.specs.Groebner.{AreMonic, leading_monomial_at}
 use Rattle.cgs_divide.specs.declared.stop.Stop.{Stop}
 use Rattle.cgs_divide.specs.declared.stop.Stop.TheVariants as stop
-use Rattle.cgs_divide.specs.Stop.{stop_of, bucket_stop}
+use Rattle.cgs_divide.specs.Stop.{stop_of}
 use Rattle.cgs_divide.specs.DivisionRun.{Run, out_of_budget, out_of_degree, first_divisor, is_too_high, less_multiple, charged, with_remainder, with_quotient}
 use Rattle.cgs_divide.specs.DivisionRun.{divided}
 use Rattle.cgs_divide.proofs.QuotientLemmas.{not_too_high, too_high}
@@ -139,10 +137,6 @@ same_stop (Err y) s e h k = cc
 pub fault_of_degree : (k : PolyFault) → stop_of k ≡ stop.Degree → k ≡ fault.Degree
 fault_of_degree fault.Degree e = refl
 fault_of_degree fault.OutOfMemory e = absurd (cc)
-
-pub bucket_fault_of_degree : (k : BucketFault) → bucket_stop k ≡ stop.Degree → k ≡ bucket.Degree
-bucket_fault_of_degree bucket.Degree e = refl
-bucket_fault_of_degree bucket.OutOfMemory e = absurd (cc)
 
 pub high_unless_low : (f : List Term) → ¬ HasLowDegrees f → is_too_high f ≡ true
 high_unless_low f h = by_test (is_too_high f) refl

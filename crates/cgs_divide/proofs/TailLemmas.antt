@@ -1,9 +1,9 @@
 -- A step by a monic divisor: the leading terms cancel, so the terms behind the divisor's lead are subtracted from those behind the leading term.
-use Rattle.std.proofs.Common.{ℕ, ◌≡◌, ◌≤◌, ◌<◌, ◌+◌, ◌-◌, ◌*◌, ◌%◌, Bool, true, false, List, [], ◌∷◌, ◌++◌, length, take, drop, Ok, Err}
+use Rattle.std.proofs.Common.{ℕ, ◌≡◌, ◌≤◌, ◌<◌, ◌+◌, ◌-◌, ◌*◌, ◌%◌, true, false, List, [], ◌∷◌, ◌++◌, length, take, drop}
 use Rattle.std.proofs.Common.{refl, sym, ap, ◌∙◌, subst, arith}
 use Rattle.std.proofs.Math.Nat.{zero-mod, mul-mod_right}
 use Rattle.std.proofs.lemmas.List.{take_rest, take_at, drop_at, length-append}
-use Rattle.std.specs.Prelude.{Result, OnOk, IsErrOf}
+use Rattle.cgs_list.proofs.ListLemmas.{all_drop}
 use Rattle.cgs_field.proofs.ModularLemmas.{mod_add}
 use Rattle.cgs_exps.specs.Monomial.{degree, product}
 use Rattle.cgs_poly.specs.Ring.{Ring}
@@ -14,16 +14,14 @@ use Rattle.cgs_poly.specs.Draft.{HaveLength}
 use Rattle.cgs_poly.proofs.ProductLemmas.{of_ring_drop}
 use Rattle.cgs_poly.proofs.SumLemmas.{total_append, alike_same, alike_append, alike_back, alike_trans, Alike}
 use Rattle.cgs_terms.proofs.FlatLemmas.{terms_drop, drop_flat}
-use Rattle.cgs_poly.proofs.ProductLemmas.{multiple_of_ring, low_any}
+use Rattle.cgs_poly.proofs.ProductLemmas.{multiple_of_ring, low_any, low_multiple, multiple_low, fits_any}
 use Rattle.cgs_poly.proofs.CanonicalLemmas.{canonical_same, canonical_alike, canonical_of_ring, append_of_ring, append_low, canonical_poly, is_canonical}
-use Rattle.cgs_bucket.specs.declared.fault.BucketFault.{BucketFault}
-use Rattle.cgs_bucket.specs.declared.fault.BucketFault.TheVariants as bucket
 use Rattle.cgs_divide.specs.DivisionRun.{is_too_high, less_multiple}
 use Rattle.cgs_divide.specs.declared.rest.Rest.{Rest}
 use Rattle.cgs_divide.specs.Rest.{left, IsRest}
+use Rattle.cgs_divide.specs.Tops.{top_behind_lead}
 use Rattle.cgs_divide.proofs.RestLemmas.{left_poly}
 use Rattle.cgs_divide.proofs.StepLemmas.{high_unless_low, low_not_high}
-use Rattle.cgs_divide.proofs.QuotientLemmas.{not_too_high, too_high}
 
 -- the two slices of all terms, and those behind the first
 
@@ -31,7 +29,7 @@ pub record IsTail (p : ℕ) (g : List Term) (cs es : List ℕ) : Type 0 where
   pub flat : length es ≡ length cs * p
   pub terms : terms_of p cs es ≡ drop 1 g
 
-slices : (p : ℕ) (g : List Term) → HaveLength p g
+pub slices : (p : ℕ) (g : List Term) → HaveLength p g
     → (length (exponents_of g) ≡ length (coefficients_of g) * p) × (terms_of p (coefficients_of g) (exponents_of g) ≡ g)
 slices p [] h = (omega arith, refl)
 slices p (x ∷ g) h =
@@ -119,16 +117,16 @@ pub tail_not_high : (c d : ℕ) (m t : List ℕ) (g : List Term) → 0 < length 
     → HasLowDegrees (multiple d t (drop 1 g)) → is_too_high (multiple c t g) ≡ false
 tail_not_high c d m t g some e l h = low_not_high (multiple c t g) (tail_low c d m t g some e l h)
 
-low_unless_not : (f : List Term) → ¬ ¬ HasLowDegrees f → HasLowDegrees f
-low_unless_not f h = by_test (is_too_high f) refl
-  where
-    by_test : (b : Bool) → is_too_high f ≡ b → HasLowDegrees f
-    by_test true e = absurd (h (λ low. too_high f e low))
-    by_test false e = not_too_high f e
+-- whether the greatest degree fits
 
-pub low_where_ok : {T : Type 0} (r : Result T BucketFault) (f : List Term) → (¬ HasLowDegrees f → IsErrOf r bucket.Degree) → OnOk r (HasLowDegrees f)
-low_where_ok (Ok x) f h = low_unless_not f (λ n. let q = h n in cc)
-low_where_ok (Err y) f h = tt
+pub tail_fits : (d : ℕ) (t : List ℕ) (g : List Term) → HaveLength (length t) g → degree t + top_behind_lead g ≤ greatest_degree
+    → HasLowDegrees (multiple d t (drop 1 g))
+tail_fits d t g h l = low_multiple d t (drop 1 g) (all_drop (λ x. length x.exponents ≡ length t) 1 g h) l
+
+pub tail_exceeds : (d : ℕ) (t : List ℕ) (g : List Term) → HaveLength (length t) g → degree t ≤ greatest_degree
+    → greatest_degree < degree t + top_behind_lead g → ¬ HasLowDegrees (multiple d t (drop 1 g))
+tail_exceeds d t g h l k low =
+    omega (arith, k, fits_any (degree t) (drop 1 g) l (λ some. multiple_low d t (drop 1 g) (all_drop (λ x. length x.exponents ≡ length t) 1 g h) some low))
 
 tail_of_ring : (ring : Ring) (d : ℕ) (t : List ℕ) (g : List Term) → length t ≡ places ring → IsPoly ring g → IsOfRing ring (multiple d t (drop 1 g))
 tail_of_ring ring d t [] l h = tt

@@ -7,3 +7,4 @@ pub mod Places
 pub mod Laws
 pub mod Examples
 pub mod Stop
+pub mod Tops

@@ -10,10 +10,12 @@ ghost use Rattle.cgs_algebra.specs.Groebner.{AreMonic};
 ghost use Rattle.cgs_divide.specs.DivisionRun.{divided, done, out_of_budget, out_of_degree, lead_mask, LeavesRemainder};
 ghost use Rattle.cgs_divide.specs.DivisionRun as run;
 ghost use Rattle.cgs_divide.specs.Division.{HasDivided, IsRemainder};
+ghost use Rattle.cgs_divide.specs.Tops.{top_behind_lead};
 
 use crate::rest::Rest;
 use crate::stop::Stop;
-use cgs_exps::{MAX_PLACES, divides, mask, may_divide, quotient_into};
+use crate::tops::Tops;
+use cgs_exps::{MAX_DEGREE, MAX_PLACES, degree, divides, mask, may_divide, quotient_into};
 use cgs_field::Elem;
 use cgs_poly::{Poly, PolyList, Ring};
 use std::alloc::{AllocError, Global};
@@ -98,6 +100,7 @@ fn divide_keeping(
     let mut remainder = Poly::zero(alloc);
     let mut quotients = zeros(alloc, kept)?;
     let masks = lead_masks(alloc, divisors)?;
+    let mut tops = Tops::unknown(alloc, divisors)?;
     let places = ring.places();
     let mut room = [0; MAX_PLACES];
     while let Some(c) = rest.take_lead(ring, f, &mut room[..places]) {
@@ -113,7 +116,8 @@ fn divide_keeping(
                 let t = &mut quotient[..places];
                 lead_quotient_into(leading, divisor, t);
                 keep_term(&mut quotients, i, c, t)?;
-                reduce(ring, &mut rest, c, t, divisor, fuel)?;
+                let top = tops.top(ring, divisors, i);
+                reduce(ring, &mut rest, c, t, divisor, top, fuel)?;
             }
         }
     }
@@ -202,13 +206,15 @@ fn lead_quotient_into(m: &[u16], divisor: &Poly, out: &mut [u16])
     quotient_into(m, divisor.term(0).exponents, out);
 }
 
-// The step by a divisor whose multiple starts with the term that was taken: the terms behind its lead are subtracted.
+// The step by a divisor whose multiple starts with the term that was taken: the terms behind its lead, of which `top` is the
+// greatest degree, are subtracted.
 fn reduce(
     ring: &Ring,
     rest: &mut Rest,
     c: Elem,
     t: &[u16],
     divisor: &Poly,
+    top: u32,
     fuel: &mut u64,
 ) -> Result<(), Stop>
     requires ring { rest.old.sum.ring ≡ ring.now }
@@ -216,8 +222,10 @@ fn reduce(
     requires positive { 0 < c }
     requires below { c < ring.now.modulus }
     requires places { length t.now ≡ places ring.now }
+    requires low { monomial.degree t.now ≤ MAX_DEGREE }
     requires divisor { IsPoly ring.now divisor.now }
     requires some { 0 < length divisor.now }
+    requires top { top ≡ top_behind_lead divisor.now }
     ensures from { rest.new.from ≡ rest.old.from }
     ensures ring { rest.new.sum.ring ≡ ring.now }
     ensures sum { OnOk result (rest.new.sum.terms ≡ canonical ring.now (rest.old.sum.terms ++ multiple (ring.now.modulus - c) t.now (drop 1 divisor.now))) }
@@ -228,6 +236,9 @@ fn reduce(
     ensures memory { fuel.new ≤ fuel.old }
 {
     spend(fuel, divisor.len() as u64)?;
+    if degree(t) + top > MAX_DEGREE {
+        return Err(Stop::Degree);
+    }
     rest.add_behind_lead(ring.modulus.neg(c), t, divisor)?;
     Ok(())
 }

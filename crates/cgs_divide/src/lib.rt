@@ -12,6 +12,7 @@ mod division;
 mod laws;
 mod rest;
 mod stop;
+mod tops;
 
 pub use autoreduction::autoreduce;
 pub use division::{Division, divide, remainder, spend};

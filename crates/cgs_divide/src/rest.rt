@@ -1,16 +1,16 @@
 //! What is left of a polynomial in a division.
 
-ghost use Rattle.std.specs.Prelude.{◌≡◌, ◌<◌, ◌≤◌, ◌^◌, ◌++◌, [], ◌∷◌, Some, length, drop, slice_get, IsNone, IfSome, OnOk, IsErrOf};
+ghost use Rattle.std.specs.Prelude.{◌≡◌, ◌<◌, ◌≤◌, ◌^◌, ◌++◌, [], ◌∷◌, Some, length, drop, slice_get, IsNone, IfSome, OnOk};
 ghost use Rattle.cgs_poly.specs.Polynomial.{IsRing, IsPoly, HasLowDegrees, places, term, canonical};
 ghost use Rattle.cgs_poly.specs.Draft.{HaveLength};
 ghost use Rattle.cgs_poly.specs.Product.{multiple};
 ghost use Rattle.cgs_divide.specs.Rest.{left, against, IsRest};
 
-use cgs_bucket::{Bucket, BucketFault};
+use cgs_bucket::Bucket;
 use cgs_field::Elem;
 use cgs_order::compare;
 use cgs_poly::{Poly, Ring};
-use std::alloc::Global;
+use std::alloc::{AllocError, Global};
 use std::cmp::Ordering;
 
 /// What is left of a polynomial: the sum of the multiples that steps added, and the polynomial's own terms from a place
@@ -109,27 +109,26 @@ impl Rest {
         Some(first.coefficient)
     }
 
-    // Adds a multiple of the terms of a divisor behind its leading one. Where it errs, nothing is added.
+    // Adds a multiple of the terms of a divisor behind its leading one, where the degrees are known to fit.
     pub(crate) fn add_behind_lead(
         &mut self,
         c: Elem,
         t: &[u16],
         divisor: &Poly,
-    ) -> Result<(), BucketFault>
+    ) -> Result<(), AllocError>
         requires positive { 0 < c }
         requires below { c < self.old.sum.ring.modulus }
         requires places { length t.now ≡ places self.old.sum.ring }
         requires divisor { IsPoly self.old.sum.ring divisor.now }
         requires some { 0 < length divisor.now }
+        requires low { HasLowDegrees (multiple c t.now (drop 1 divisor.now)) }
         ensures from { self.new.from ≡ self.old.from }
         ensures ring { self.new.sum.ring ≡ self.old.sum.ring }
         ensures sum { OnOk result (self.new.sum.terms ≡ canonical self.old.sum.ring (self.old.sum.terms ++ multiple c t.now (drop 1 divisor.now))) }
-        ensures degree { IsErrOf result BucketFault.Degree → ¬ HasLowDegrees (multiple c t.now (drop 1 divisor.now)) }
-        ensures low { OnOk result (HasLowDegrees (multiple c t.now (drop 1 divisor.now))) }
     {
         let coefficients = divisor.coefficients();
         let exponents = divisor.exponents();
         self.sum
-            .add_multiple(c, t, &coefficients[1..], &exponents[t.len()..])
+            .add_low_multiple(c, t, &coefficients[1..], &exponents[t.len()..])
     }
 }

@@ -2,8 +2,8 @@ use Rattle.std.proofs.Common.{List, Some, true, Err, ◌≡◌, ◌<◌, ◌≤�
 use Rattle.std.proofs.Common.{refl, sym, ap, ◌∙◌, subst, arith}
 use Rattle.std.specs.Prelude.{slice_get}
 use Rattle.std.proofs.lemmas.List.{length-set, take_at}
-use Rattle.cgs_exps.specs.Monomial.{divides, quotient, product}
-use Rattle.cgs_exps.proofs.MonomialLemmas.{quotient_length, quotient_product}
+use Rattle.cgs_exps.specs.Monomial.{degree, divides, quotient, product}
+use Rattle.cgs_exps.proofs.MonomialLemmas.{quotient_length, quotient_product, degree_quotient}
 use Rattle.cgs_poly.specs.Product.{multiple, leading_monomial, leading_coefficient}
 use Rattle.cgs_divide.specs.declared.stop.Stop.TheVariants as stop
 use Rattle.cgs_poly.specs.Polynomial.{Term, HasLowDegrees, IsPoly, places, term, canonical}
@@ -13,6 +13,7 @@ use Rattle.cgs_poly.proofs.CanonicalLemmas.{canonical_itself}
 use Rattle.cgs_list.proofs.ListLemmas.{all_at_place}
 use Rattle.cgs_bucket.specs.Levels.{Contents}
 use Rattle.cgs_divide.specs.Rest.{left}
+use Rattle.cgs_divide.specs.Tops.{top_behind_lead}
 use Rattle.cgs_divide.proofs.RestLemmas.{left_poly}
 use Rattle.cgs_divide.proofs.TailLemmas.{step_left, step_rest, tail_high, tail_not_high}
 use Rattle.cgs_algebra.proofs.RepresentationLemmas.{lead_at_length}
@@ -46,6 +47,7 @@ loop-c-init c =
       };
       remainder = rw c.zero-remainder.ensures tt;
       units = omega arith;
+      tops = c.in_ok-tops.ensures;
       lengths = λ i. rw (z, empty_at c.args.kept i) tt;
     }
 
@@ -84,10 +86,10 @@ returns-in_err-spend-in-None-clause-budget c = λ e.
     (none_divides s (c.in-None.ensures.none refl)) c.in_err-spend-in-None.ensures.budget.0
     ∙ ap out_of_budget (sym c.in_err-spend-in-None.ensures.budget.1))
 
-pub loop-c-preserved-in-Continue-branch-4 : goal.loop-c-preserved-in-Continue-branch-4
-loop-c-preserved-in-Continue-branch-4 c =
+pub loop-c-preserved-in-Continue-branch-5 : goal.loop-c-preserved-in-Continue-branch-5
+loop-c-preserved-in-Continue-branch-5 c =
     let paid = c.in_ok-spend-in-None.ensures.ok in
-    let s = (goal.at.loop-c-preserved-in-Continue-branch-4 c).In-Some in
+    let s = (goal.at.loop-c-preserved-in-Continue-branch-5 c).In-Some in
     let r = c.loop-c.invariant.run in
     let pushed : c.push.new.self ≡ c.loop-c.remainder ++ leading s ∷ [] =
     c.in_ok-push-in-None.ensures.ok ∙ ap (λ m. c.loop-c.remainder ++ term c.in-Some.c m ∷ []) (seen_is s) in
@@ -107,6 +109,7 @@ loop-c-preserved-in-Continue-branch-4 c =
       remainder = rw pushed
           (lengths_append (places c.args.ring.now) c.loop-c.remainder c.in-Some.c c.take_lead.new.out c.loop-c.invariant.remainder c.in-Some.ensures.out);
       units = omega (arith, paid.1, c.loop-c.invariant.units);
+      tops = c.loop-c.invariant.tops;
       lengths = c.loop-c.invariant.lengths;
     }
 
@@ -161,6 +164,22 @@ reduce-requires-clause-positive c = (leading_poly (goal.at.reduce-requires-claus
 
 pub reduce-requires-clause-below : goal.reduce-requires-clause-below
 reduce-requires-clause-below c = (leading_poly (goal.at.reduce-requires-clause-below c).In-Some).canonical.1
+
+pub reduce-requires-clause-low : goal.reduce-requires-clause-low
+reduce-requires-clause-low c =
+    let s = (goal.at.reduce-requires-clause-low c).In-Some in
+    let d = (goal.at.reduce-requires-clause-low c).After-get-divisor in
+    let g : List Term = c.get-divisor.result.now in
+    let same : length (seen s) ≡ length (leading_monomial g) = ap length (seen_is s) ∙ (c.in-Some.ensures.out ∙ sym (lead_long d)) in
+    let less = degree_quotient (seen s) (leading_monomial g) same (divisor_divides_at d (seen s) c.in-Some-first_divisor.ensures.first.1) in
+    omega (arith, less, ap degree c.lead_quotient_into.ensures, ap degree (seen_is s), (leading_poly s).low.0)
+
+pub reduce-requires-clause-top : goal.reduce-requires-clause-top
+reduce-requires-clause-top c =
+    c.top-top.ensures.top ∙ ap top_behind_lead (divisor_is (goal.at.reduce-requires-clause-top c).After-get-divisor)
+
+pub top-top-requires-clause-known : goal.top-top-requires-clause-known
+top-top-requires-clause-known c = c.loop-c.invariant.tops
 
 pub reduce-requires-clause-divisor : goal.reduce-requires-clause-divisor
 reduce-requires-clause-divisor c = divisor_poly (goal.at.reduce-requires-clause-divisor c).After-get-divisor
@@ -268,6 +287,7 @@ loop-c-preserved c =
           done.from sum done.ring behind;
       remainder = c.loop-c.invariant.remainder;
       units = omega (arith, done.paid.1, c.loop-c.invariant.units);
+      tops = c.top-top.ensures.known;
       lengths =
           λ j. rw now
           (set_keeps (λ q. HaveLength (places c.args.ring.now) q) items i _ j (c.loop-c.invariant.lengths j)

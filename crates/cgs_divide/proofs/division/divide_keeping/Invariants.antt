@@ -3,6 +3,7 @@ use Rattle.cgs_poly.specs.Polynomial.{places}
 use Rattle.cgs_poly.specs.Draft.{HaveLength}
 use Rattle.cgs_divide.specs.DivisionRun.{divided}
 use Rattle.cgs_divide.specs.Rest.{left, IsRest}
+use Rattle.cgs_divide.specs.Tops.{AreTops}
 use Rattle.cgs_divide.proofs.ResumedLemmas.{IsResumed}
 use Rattle.cgs_divide.proofs.division.divide_keeping.Given as goal
 
@@ -14,6 +15,7 @@ invariant-loop-c l = record {
   rest : IsRest l.ring l.f l.rest;
   remainder : HaveLength (places l.ring) l.remainder;
   units : l.fuel ≤ l.fn.fuel;
+  tops : AreTops l.divisors l.tops.degrees.items;
   lengths : (i : ℕ) → HaveLength (places l.ring) (get_or l.quotients.items i []);
 }
 

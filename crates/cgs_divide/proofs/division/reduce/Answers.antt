@@ -1,13 +1,13 @@
-use Rattle.std.proofs.Common.{◌≡◌, ◌-◌, ◌++◌, Err, drop, ap, ◌∙◌, sym, subst, arith}
+use Rattle.std.proofs.Common.{◌≡◌, ◌-◌, ◌++◌, length, drop, ap, ◌∙◌, arith}
 use Rattle.std.proofs.Math.Nat.{mod-eq_of_lt}
-use Rattle.cgs_bucket.specs.declared.fault.BucketFault.TheVariants as fault
-use Rattle.cgs_poly.specs.Polynomial.{HasLowDegrees, canonical}
+use Rattle.cgs_poly.specs.Polynomial.{canonical}
 use Rattle.cgs_poly.specs.Product.{multiple}
-use Rattle.cgs_divide.specs.declared.stop.Stop.TheVariants as stop
-use Rattle.cgs_divide.specs.Stop.{bucket_stop}
-use Rattle.cgs_divide.proofs.StepLemmas.{same_stop, bucket_fault_of_degree}
+use Rattle.cgs_poly.specs.Draft.{HaveLength}
+use Rattle.cgs_poly.proofs.PlaceLemmas.{canonical_length}
+use Rattle.cgs_poly.proofs.ProductLemmas.{top_of_low, low_drop}
+use Rattle.cgs_divide.proofs.TailLemmas.{tail_fits, tail_exceeds}
 use Rattle.cgs_divide.proofs.division.reduce.Goals as goal
-use Rattle.cgs_divide.proofs.division.reduce.Goals.{After-neg}
+use Rattle.cgs_divide.proofs.division.reduce.Goals.{Start, After-neg}
 
 opposite : (c : After-neg) → c.neg.result ≡ c.args.ring.now.modulus - c.args.c
 opposite c = c.neg.ensures.value ∙ mod-eq_of_lt (omega (arith, c.requires.positive, c.requires.below))
@@ -26,18 +26,31 @@ add_behind_lead-requires-clause-places c = rw c.requires.ring c.requires.places
 pub add_behind_lead-requires-clause-divisor : goal.add_behind_lead-requires-clause-divisor
 add_behind_lead-requires-clause-divisor c = rw c.requires.ring c.requires.divisor
 
-pub returns-in_err-add_behind_lead-clause-degree : goal.returns-in_err-add_behind_lead-clause-degree
-returns-in_err-add_behind_lead-clause-degree c = λ e.
-    let paid = c.in_ok-spend.ensures.ok in
-    let s : bucket_stop c.in_err-add_behind_lead.field-0.0 ≡ stop.Degree =
-    same_stop c.from_residual-in_err-add_behind_lead.result (bucket_stop c.in_err-add_behind_lead.field-0.0) stop.Degree
-    c.from_residual-in_err-add_behind_lead.ensures.1 e in
-    let k : c.in_err-add_behind_lead.field-0.0 ≡ fault.Degree = bucket_fault_of_degree c.in_err-add_behind_lead.field-0.0 s in
-    let high = c.in_err-add_behind_lead.ensures.degree (ap Err k) in
-    let o = opposite (goal.at.returns-in_err-add_behind_lead-clause-degree c).After-neg in (
+lengths : (c : Start) → HaveLength (length c.args.t.now) c.args.divisor.now
+lengths c = rw c.requires.places (canonical_length c.args.ring.now c.args.divisor.now c.requires.divisor.canonical)
+
+pub overflow_add-degree : goal.overflow_add-degree
+overflow_add-degree c = omega (
+  arith,
+  c.degree.ensures,
+  c.requires.low,
+  c.requires.top,
+  top_of_low (drop 1 c.args.divisor.now) (low_drop 1 c.args.divisor.now c.requires.divisor.low),
+)
+
+pub add_behind_lead-requires-clause-low : goal.add_behind_lead-requires-clause-low
+add_behind_lead-requires-clause-low c =
+    tail_fits c.neg.result c.args.t.now c.args.divisor.now (lengths (goal.at.add_behind_lead-requires-clause-low c).Start)
+    (omega (arith, c.if-degree-top-gt-MAX_DEGREE.false, c.degree.ensures, c.requires.top))
+
+pub returns-then-degree-top-gt-MAX_DEGREE-clause-degree : goal.returns-then-degree-top-gt-MAX_DEGREE-clause-degree
+returns-then-degree-top-gt-MAX_DEGREE-clause-degree c = λ e.
+    let paid = c.in_ok-spend.ensures.ok in (
       rw (← c.len.ensures) paid.0,
       rw (← c.len.ensures) paid.1,
-      (λ low. high (subst (λ d. HasLowDegrees (multiple d c.args.t.now (drop 1 c.args.divisor.now))) (sym o) low)),
+      tail_exceeds (c.args.ring.now.modulus - c.args.c) c.args.t.now c.args.divisor.now
+          (lengths (goal.at.returns-then-degree-top-gt-MAX_DEGREE-clause-degree c).Start) c.requires.low
+          (omega (arith, c.if-degree-top-gt-MAX_DEGREE.true, c.degree.ensures, c.requires.top)),
     )
 
 pub returns-clause-sum : goal.returns-clause-sum
@@ -49,5 +62,5 @@ returns-clause-sum c =
 
 pub returns-clause-low : goal.returns-clause-low
 returns-clause-low c =
-    subst (λ d. HasLowDegrees (multiple d c.args.t.now (drop 1 c.args.divisor.now))) (opposite (goal.at.returns-clause-low c).After-neg)
-    c.in_ok-add_behind_lead.ensures.low
+    tail_fits (c.args.ring.now.modulus - c.args.c) c.args.t.now c.args.divisor.now (lengths (goal.at.returns-clause-low c).Start)
+    (omega (arith, c.if-degree-top-gt-MAX_DEGREE.false, c.degree.ensures, c.requires.top))

@@ -1,12 +1,12 @@
-use Rattle.std.proofs.Common.{◌≡◌, ◌≤◌, ◌*◌, ◌++◌, length, ap, sym, ◌∙◌, subst, refl, arith}
+use Rattle.std.proofs.Common.{◌≡◌, ◌≤◌, ◌*◌, length, ap, sym, ◌∙◌, subst, refl, arith}
 use Rattle.cgs_exps.specs.Monomial.{degree}
-use Rattle.cgs_terms.specs.Polynomial.{IsPoly, HasLowDegrees, places, canonical}
+use Rattle.cgs_terms.specs.Polynomial.{IsPoly, HasLowDegrees, places}
 use Rattle.cgs_terms.specs.Product.{multiple}
 use Rattle.cgs_terms.specs.Flat.{terms_of}
 use Rattle.cgs_terms.specs.Draft.{HaveLength}
 use Rattle.cgs_terms.proofs.PlaceLemmas.{canonical_short, canonical_length}
 use Rattle.cgs_terms.proofs.ProductLemmas.{low_if_any, multiple_low, fits_unless}
-use Rattle.cgs_bucket.specs.Levels.{Contents, all_terms}
+use Rattle.cgs_bucket.specs.Levels.{Contents}
 use Rattle.cgs_bucket.proofs.FaultLemmas.{not_of_degree}
 use Rattle.cgs_bucket.proofs.bucket.Bucket.add_multiple.Goals as goal
 use Rattle.cgs_bucket.proofs.bucket.Bucket.add_multiple.Goals.{After-new-g, Else-exceeds}
@@ -70,29 +70,14 @@ low_given : (c : Else-exceeds) → HasLowDegrees (multiple c.args.c c.args.m.now
     (terms_of (places c.args.self.now.ring) c.args.coefficients.now c.args.exponents.now))
 low_given c = subst (λ h. HasLowDegrees (multiple c.args.c c.args.m.now h)) (same_terms c) (low c)
 
-pub add-requires-clause-second : goal.add-requires-clause-second
-add-requires-clause-second c =
-    let g = (goal.at.add-requires-clause-second c).After-new-g in
-    subst (λ ring. IsPoly ring c.new-g.result) (sym (ap (λ (b : Contents). b.ring) c.self.view_is)) (given g)
+pub add_low_multiple-requires-clause-low : goal.add_low_multiple-requires-clause-low
+add_low_multiple-requires-clause-low c = low_given (goal.at.add_low_multiple-requires-clause-low c).Else-exceeds
 
-pub add-requires-clause-low : goal.add-requires-clause-low
-add-requires-clause-low c = low (goal.at.add-requires-clause-low c).Else-exceeds
-
-pub returns-in_err-add-clause-degree : goal.returns-in_err-add-clause-degree
-returns-in_err-add-clause-degree c = (
+pub returns-in_err-add_low_multiple-clause-degree : goal.returns-in_err-add_low_multiple-clause-degree
+returns-in_err-add_low_multiple-clause-degree c = (
   (λ e l. not_of_degree c.from_residual.result c.from_residual.ensures.1 e),
-  (λ n. absurd (n (low_given (goal.at.returns-in_err-add-clause-degree c).Else-exceeds))),
+  (λ n. absurd (n (low_given (goal.at.returns-in_err-add_low_multiple-clause-degree c).Else-exceeds))),
 )
 
 pub returns-clause-degree : goal.returns-clause-degree
 returns-clause-degree c = ((λ e l. cc), (λ n. absurd (n (low_given (goal.at.returns-clause-degree c).Else-exceeds))))
-
-pub returns-clause-ok : goal.returns-clause-ok
-returns-clause-ok c =
-    let inside = c.self.inside in
-    let g = (goal.at.returns-clause-ok c).After-new-g in
-    c.in_ok-add.ensures.ok.sum
-    ∙ (ap (λ h. canonical c.self.inside.ring (canonical c.self.inside.ring (all_terms c.self.inside.levels.items) ++ multiple c.args.c c.args.m.now h))
-    (given_is g)
-    ∙ ap (λ (b : Contents). canonical b.ring (b.terms ++ multiple c.args.c c.args.m.now
-    (terms_of (places c.args.self.now.ring) c.args.coefficients.now c.args.exponents.now))) c.self.view_is)

@@ -15,3 +15,5 @@ pub mod MonicLemmas
 pub mod SameLemmas
 pub mod OneLemmas
 pub mod TermLemmas
+pub mod GridLemmas
+pub mod CellLemmas

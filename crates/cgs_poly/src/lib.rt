@@ -6,12 +6,15 @@
 #![tactic(auto)]
 
 mod arithmetic;
+mod cells;
 mod fault;
+mod grid;
 mod laws;
 mod list;
 mod merge;
 mod parameters;
 mod poly;
+mod product;
 mod recast;
 mod sum;
 

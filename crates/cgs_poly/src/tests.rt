@@ -171,6 +171,50 @@ fn products(rt: HostRuntime) -> Result<(), Fail> {
     Ok(())
 }
 
+#[test]
+fn products_on_a_grid(rt: HostRuntime) -> Result<(), Fail> {
+    let ring = ring(2).ok_or("no ring")?;
+    // 1 + x + .. + x^7, and y times it
+    let f: Terms<'_> = &[
+        (1, [7, 0]),
+        (1, [6, 0]),
+        (1, [5, 0]),
+        (1, [4, 0]),
+        (1, [3, 0]),
+        (1, [2, 0]),
+        (1, [1, 0]),
+        (1, [0, 0]),
+    ];
+    let g: Terms<'_> = &[
+        (1, [7, 1]),
+        (1, [6, 1]),
+        (1, [5, 1]),
+        (1, [4, 1]),
+        (1, [3, 1]),
+        (1, [2, 1]),
+        (1, [1, 1]),
+        (1, [0, 1]),
+    ];
+    // each power of x as often as it is a sum of two exponents, modulo 7
+    let want: Terms<'_> = &[
+        (1, [14, 1]),
+        (2, [13, 1]),
+        (3, [12, 1]),
+        (4, [11, 1]),
+        (5, [10, 1]),
+        (6, [9, 1]),
+        (1, [7, 1]),
+        (6, [5, 1]),
+        (5, [4, 1]),
+        (4, [3, 1]),
+        (3, [2, 1]),
+        (2, [1, 1]),
+        (1, [0, 1]),
+    ];
+    assert!(rt; multiplies(rt.alloc(), &ring, f, g, want)?);
+    Ok(())
+}
+
 // Whether a polynomial has these terms where it is made monic, and comes back where that is scaled.
 fn is_monic_multiple(
     alloc: Global,

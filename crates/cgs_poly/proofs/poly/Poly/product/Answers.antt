@@ -1,6 +1,5 @@
-use Rattle.std.proofs.Common.{◌≡◌, ◌≤◌, ◌-◌, ◌+◌, take, drop, ap, ◌∙◌, refl, arith}
-use Rattle.std.proofs.lemmas.List.{take_all}
-use Rattle.cgs_poly.specs.Polynomial.{HasLowDegrees, greatest_degree, places, canonical, coefficient}
+use Rattle.std.proofs.Common.{◌≤◌, ◌+◌, ap, ◌∙◌, refl, arith}
+use Rattle.cgs_poly.specs.Polynomial.{HasLowDegrees, greatest_degree, places, coefficient}
 use Rattle.cgs_poly.specs.Product.{all_products, top_degree}
 use Rattle.cgs_poly.proofs.FaultLemmas.{not_of_degree}
 use Rattle.cgs_poly.proofs.RingLemmas.{ring_positive, places_few}
@@ -41,8 +40,8 @@ returns-then-exceeds-clause-degree c =
       (λ n. refl),
     )
 
-pub product_of-requires-clause-low : goal.product_of-requires-clause-low
-product_of-requires-clause-low c = fits (goal.at.product_of-requires-clause-low c).Else-exceeds
+pub low_product-requires-clause-low : goal.low_product-requires-clause-low
+low_product-requires-clause-low c = fits (goal.at.low_product-requires-clause-low c).Else-exceeds
 
 pub returns-in_err-product-clause-degree : goal.returns-in_err-product-clause-degree
 returns-in_err-product-clause-degree c = (
@@ -58,8 +57,7 @@ returns-clause-low c = low (goal.at.returns-clause-low c).Else-exceeds
 
 pub returns-clause-coefficients : goal.returns-clause-coefficients
 returns-clause-coefficients c = λ n.
-    let t : take (c.len-2.result - 0) (drop 0 c.args.f.now) ≡ c.args.f.now = take_all (c.len-2.result - 0) c.args.f.now (omega (arith, c.len-2.ensures)) in
-    ap (λ h. coefficient c.args.ring.now.modulus h n) (c.in_ok-product.ensures.product ∙ ap (λ f. canonical c.args.ring.now (all_products f c.args.g.now)) t)
+    ap (λ h. coefficient c.args.ring.now.modulus h n) c.in_ok-product.ensures.product
     ∙ coefficient_canonical c.args.ring.now (all_products c.args.f.now c.args.g.now) n (ring_positive c.args.ring.now c.requires.ring)
     (products_of_ring c.args.ring.now c.args.f.now c.args.g.now (canonical_of_ring c.args.ring.now c.args.f.now c.requires.first.canonical)
     (canonical_of_ring c.args.ring.now c.args.g.now c.requires.second.canonical))

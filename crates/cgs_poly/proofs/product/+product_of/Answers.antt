@@ -8,7 +8,7 @@ use Rattle.cgs_poly.proofs.ProductLemmas.{can_multiply, part_of_ring, part_poly,
 use Rattle.cgs_poly.proofs.ChangedLemmas.{multiple_canonical}
 use Rattle.cgs_poly.proofs.ArithmeticLemmas.{product_one}
 use Rattle.cgs_poly.proofs.CanonicalLemmas.{canonical_of_ring}
-use Rattle.cgs_poly.proofs.arithmetic.+product_of.Goals as goal
+use Rattle.cgs_poly.proofs.product.+product_of.Goals as goal
 
 pub multiplied-requires-clause-can : goal.multiplied-requires-clause-can
 multiplied-requires-clause-can t c =

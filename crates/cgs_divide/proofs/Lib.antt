@@ -12,4 +12,5 @@ pub mod MonicLemmas
 pub mod MinimalLemmas
 pub mod AutoreductionRunLemmas
 pub mod PlaceLemmas
+pub mod UndividedLemmas
 pub mod LowLemmas

@@ -56,7 +56,7 @@ get_read xs i x d e = sym (unwrap_or-slice_get xs i d) ∙ ap (λ o. unwrap_or o
 charged_little : (cost units : ℕ) (run : Run) → units < cost → charged cost units run ≡ out_of_budget units
 charged_little cost units run h = rw (lt-ltb units cost h) refl
 
-charged_enough : (cost units : ℕ) (run : Run) → cost ≤ units → charged cost units run ≡ run
+pub charged_enough : (cost units : ℕ) (run : Run) → cost ≤ units → charged cost units run ≡ run
 charged_enough cost units run h = rw (le-ltb units cost h) refl
 
 module _ (ring : Ring) (G : List (List Term)) (ok : AreMonic ring G) (Q : List (List Term)) (units : ℕ)

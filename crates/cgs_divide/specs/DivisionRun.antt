@@ -22,6 +22,12 @@ abbrev pub first_divisor : List (List Term) → List ℕ → ℕ
 first_divisor [] m = 0
 first_divisor (g ∷ G) m = cond (divides (leading_monomial g) m) 0 (suc (first_divisor G m))
 
+-- how many terms stand before the first that a lead divides, at most so many
+abbrev pub undivided : ℕ → List (List Term) → List Term → ℕ
+undivided zero G f = 0
+undivided (suc n) G [] = 0
+undivided (suc n) G (x ∷ f) = cond (nat_lt (first_divisor G x.exponents) (length G)) 0 (suc (undivided n G f))
+
 -- the mask of the lead
 abbrev pub lead_mask : List Term → ℕ
 lead_mask g = mask (leading_monomial g)

@@ -1,6 +1,7 @@
 //! The division of a polynomial by a list of polynomials.
 
 ghost use Rattle.std.specs.Prelude.{◌≡◌, ◌<◌, ◌≤◌, ◌-◌, ◌++◌, ℕ, [], ◌∷◌, length, slice_index_or, slice_set, take, drop, map, replicate, IsTrue, IsNone, IfSome, IfOk, OnOk, OnErr, IsErrOf, IfErr};
+ghost use Rattle.std.specs.List.{AllByRecursion};
 ghost use Rattle.cgs_exps.specs.Monomial as monomial;
 ghost use Rattle.cgs_exps.specs.Mask as masks;
 ghost use Rattle.cgs_poly.specs.Polynomial.{IsRing, IsPoly, HasLowDegrees, places, term, canonical, ArePolys};
@@ -96,10 +97,12 @@ fn divide_keeping(
     ensures degree { IsErrOf result Stop.Degree → divided ring.now divisors.now fuel.old f.now ≡ out_of_degree fuel.new }
     ensures units { fuel.new ≤ fuel.old }
 {
-    let mut rest = Rest::whole(alloc, ring);
-    let mut remainder = Poly::zero(alloc);
     let mut quotients = zeros(alloc, kept)?;
     let masks = lead_masks(alloc, divisors)?;
+    let before = undivided(divisors, &masks, f, *fuel);
+    *fuel -= before as u64;
+    let mut remainder = Poly::first_terms(alloc, f, before)?;
+    let mut rest = Rest::behind(alloc, ring, before);
     let mut tops = Tops::unknown(alloc, divisors)?;
     let places = ring.places();
     let mut room = [0; MAX_PLACES];
@@ -149,6 +152,23 @@ fn lead_masks(alloc: Global, divisors: &PolyList) -> Result<Vec<u32>, AllocError
         masks.push(mask(divisors.get(i).term(0).exponents))?;
     }
     Ok(masks)
+}
+
+// How many terms stand before the first that the lead of a divisor divides, at most `limit`.
+fn undivided(divisors: &PolyList, masks: &[u32], f: &Poly, limit: u64) -> usize
+    requires places { AllByRecursion (λ x. length x.exponents ≤ MAX_PLACES) f.now }
+    requires some { (i : ℕ) → i < length divisors.now → 0 < length (slice_index_or divisors.now i []) }
+    requires lengths { (i : ℕ) → i < length divisors.now → HaveLength (length (leading_monomial (slice_index_or divisors.now i []))) f.now }
+    requires masks { masks.now ≡ map lead_mask divisors.now }
+    ensures { result ≡ run.undivided limit divisors.now f.now }
+{
+    let most = limit.min(f.len() as u64) as usize;
+    for i in 0..most {
+        if first_divisor(divisors, masks, f.term(i).exponents).is_some() {
+            return i;
+        }
+    }
+    most
 }
 
 // The place of the first divisor whose lead divides a monomial.

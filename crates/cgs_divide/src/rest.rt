@@ -22,15 +22,15 @@ pub(crate) struct Rest {
 }
 
 impl Rest {
-    // The whole of a polynomial.
-    pub(crate) fn whole(alloc: Global, ring: &Ring) -> Rest
+    // The terms of a polynomial from a place on.
+    pub(crate) fn behind(alloc: Global, ring: &Ring, from: usize) -> Rest
         requires { IsRing ring.now }
         ensures sum { result.sum ≡ record { ring = ring.now; terms = [] } }
-        ensures from { result.from ≡ 0 }
+        ensures from { result.from ≡ from }
     {
         Rest {
             sum: Bucket::new(alloc, ring.modulus, ring.order()),
-            from: 0,
+            from,
         }
     }
 

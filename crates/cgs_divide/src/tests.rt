@@ -89,6 +89,21 @@ const ROWS: &[Row<'static>] = &[
         )),
         left: 1,
     },
+    // two terms stand before the first that is divided, and units end between them
+    Row {
+        dividend: &[(1, [1, 1]), (1, [1, 0]), (1, [0, 2])],
+        divisors: &[Y2_LESS_ONE],
+        units: 5,
+        found: Ok((&[(1, [1, 1]), (1, [1, 0]), (1, [0, 0])], &[&[(1, [0, 0])]])),
+        left: 0,
+    },
+    Row {
+        dividend: &[(1, [1, 1]), (1, [1, 0]), (1, [0, 2])],
+        divisors: &[Y2_LESS_ONE],
+        units: 1,
+        found: Err(Stop::Budget),
+        left: 0,
+    },
     // the multiple has the degree 32768: the step has paid, and with a unit too few it does not come to that
     Row {
         dividend: &[(1, [1, 32766])],

@@ -1,6 +1,6 @@
 //! A polynomial, kept in two flat vectors.
 
-ghost use Rattle.std.specs.Prelude.{◌≡◌, ◌<◌, ◌≤◌, ◌↔◌, [], ◌∷◌, ◌++◌, length, slice_get, IsTrue, IsNone, IfSome, IfOk, OnOk, OnErr, IsErrOf};
+ghost use Rattle.std.specs.Prelude.{◌≡◌, ◌<◌, ◌≤◌, ◌↔◌, [], ◌∷◌, ◌++◌, length, take, slice_get, IsTrue, IsNone, IfSome, IfOk, OnOk, OnErr, IsErrOf};
 ghost use Rattle.cgs_exps.specs.Monomial.{degree};
 ghost use Rattle.cgs_poly.specs.Polynomial.{IsRing, IsPoly, places, term, one, canonical, greatest_degree};
 ghost use Rattle.cgs_poly.specs.Draft.{HaveLength};
@@ -71,6 +71,16 @@ impl Poly {
         }
         let term = single(alloc, ring, c, m)?;
         Ok(term)
+    }
+
+    /// The sum of the first so many terms of a polynomial.
+    pub fn first_terms(alloc: Global, f: &Poly, count: usize) -> Result<Poly, AllocError>
+        requires { count ≤ length f.now }
+        ensures { IfOk result (λ first. first ≡ take count f.now) }
+    {
+        let first = f.terms.flat().between(0, count);
+        let terms = TermList::copied(alloc, &first)?;
+        Ok(Poly { terms })
     }
 
     /// The number of terms.

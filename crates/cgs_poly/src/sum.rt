@@ -8,7 +8,7 @@ ghost use Rattle.cgs_poly.specs.Sum.{FallsAfter};
 
 use crate::poly::{Poly, single};
 use cgs_order::compare;
-use cgs_terms::{Draft, Flat, Ring, TermList};
+use cgs_terms::{Flat, Ring, TermList};
 use std::alloc::{AllocError, Global};
 
 impl Poly {
@@ -51,8 +51,8 @@ fn sum_of(
     }
     let part = terms.flat().between(from, to);
     if are_canonical(ring, &part) {
-        let sum = copied(alloc, ring, &part)?;
-        return Ok(sum);
+        let terms = TermList::copied(alloc, &part)?;
+        return Ok(Poly { terms });
     }
     let half = from + (to - from) / 2;
     let first = sum_of(alloc, ring, terms, from, half)?;
@@ -88,17 +88,4 @@ fn falls_after(ring: &Ring, terms: &Flat<'_>, i: usize) -> bool
     }
     let order = ring.order();
     compare(&order, terms.term(i + 1).exponents, terms.term(i).exponents).is_lt()
-}
-
-// The same terms as a polynomial.
-fn copied(alloc: Global, ring: &Ring, terms: &Flat<'_>) -> Result<Poly, AllocError>
-    requires { HaveLength (places ring.now) terms.now }
-    ensures { IfOk result (λ f. f ≡ terms.now) }
-{
-    let places = ring.places();
-    let mut draft = Draft::with_room(alloc, places, terms.len(), places)?;
-    draft.extend(terms, 0, terms.len())?;
-    Ok(Poly {
-        terms: draft.finish(),
-    })
 }

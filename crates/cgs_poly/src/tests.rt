@@ -253,6 +253,17 @@ fn pushed(rt: HostRuntime) -> Result<(), Fail> {
 }
 
 #[test]
+fn first_terms(rt: HostRuntime) -> Result<(), Fail> {
+    let ring = ring(2).ok_or("no ring")?;
+    let f = poly(rt.alloc(), &ring, &[(5, [0, 1]), (3, [2, 0])])?;
+    let first = Poly::first_terms(rt.alloc(), &f, f.len() / 2)?;
+    assert!(rt; has_terms(&first, &[(3, [2, 0])]));
+    let all = Poly::first_terms(rt.alloc(), &f, f.len())?;
+    assert!(rt; all.same(&f));
+    Ok(())
+}
+
+#[test]
 fn lists(rt: HostRuntime) -> Result<(), Fail> {
     let ring = ring(2).ok_or("no ring")?;
     let f = poly(rt.alloc(), &ring, &[(3, [1, 0]), (6, [0, 0])])?;

@@ -1,6 +1,6 @@
 //! A list of terms, kept in two flat vectors.
 
-ghost use Rattle.std.specs.Prelude.{◌≡◌, ◌<◌, ◌≤◌, ◌+◌, ◌↔◌, [], ◌∷◌, ◌++◌, Some, length, slice_get, vec_len, vec_capacity, IsTrue, OnOk, OnErr};
+ghost use Rattle.std.specs.Prelude.{◌≡◌, ◌<◌, ◌≤◌, ◌+◌, ◌↔◌, [], ◌∷◌, ◌++◌, Some, length, slice_get, vec_len, vec_capacity, IsTrue, IfOk, OnOk, OnErr};
 ghost use Rattle.cgs_terms.specs.Polynomial.{term};
 ghost use Rattle.cgs_terms.specs.Draft.{HaveLength};
 ghost use Rattle.cgs_terms.specs.Flat.{with_coefficient, coefficients_of, exponents_of};
@@ -45,6 +45,21 @@ impl TermList {
             exponents: Vec::new(alloc),
             places: 0,
         }
+    }
+
+    /// The same terms, with room for no others.
+    pub fn copied(alloc: Global, terms: &Flat<'_>) -> Result<TermList, AllocError>
+        ensures { IfOk result (λ list. list ≡ terms.now) }
+    {
+        let mut coefficients = Vec::with_capacity(alloc, terms.coefficients.len())?;
+        coefficients.extend_from_slice(terms.coefficients)?;
+        let mut exponents = Vec::with_capacity(alloc, terms.exponents.len())?;
+        exponents.extend_from_slice(terms.exponents)?;
+        Ok(TermList {
+            coefficients,
+            exponents,
+            places: terms.places,
+        })
     }
 
     /// The number of terms.

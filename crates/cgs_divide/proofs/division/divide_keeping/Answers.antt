@@ -9,43 +9,73 @@ use Rattle.cgs_divide.specs.declared.stop.Stop.TheVariants as stop
 use Rattle.cgs_poly.specs.Polynomial.{Term, HasLowDegrees, IsPoly, places, term, canonical}
 use Rattle.cgs_poly.specs.Draft.{HaveLength}
 use Rattle.cgs_poly.proofs.RingLemmas.{ring_positive}
+use Rattle.cgs_poly.proofs.PlaceLemmas.{canonical_drop, canonical_length}
 use Rattle.cgs_poly.proofs.CanonicalLemmas.{canonical_itself}
-use Rattle.cgs_list.proofs.ListLemmas.{all_at_place}
+use Rattle.cgs_list.proofs.ListLemmas.{all_take, all_weaker, all_at_place}
 use Rattle.cgs_bucket.specs.Levels.{Contents}
 use Rattle.cgs_divide.specs.Rest.{left}
 use Rattle.cgs_divide.specs.Tops.{top_behind_lead}
 use Rattle.cgs_divide.proofs.RestLemmas.{left_poly}
 use Rattle.cgs_divide.proofs.TailLemmas.{step_left, step_rest, tail_high, tail_not_high}
 use Rattle.cgs_algebra.proofs.RepresentationLemmas.{lead_at_length}
-use Rattle.cgs_divide.specs.DivisionRun.{first_divisor, out_of_budget, out_of_degree, is_too_high, less_multiple}
+use Rattle.cgs_divide.specs.DivisionRun.{first_divisor, undivided, out_of_budget, out_of_degree, is_too_high, less_multiple}
 use Rattle.cgs_divide.proofs.QuotientLemmas.{divisor_divides, zeros, zeros_length}
 use Rattle.cgs_divide.proofs.RunLemmas.{monic_some, divided_nothing}
-use Rattle.cgs_divide.proofs.ResumedLemmas.{resumed_nothing, resumed_done, zeros_front, empty_at, front_set}
+use Rattle.cgs_divide.proofs.ResumedLemmas.{resumed_done, zeros_front, empty_at, front_set}
+use Rattle.cgs_divide.proofs.UndividedLemmas.{kept_front, within_terms, within_limit}
 use Rattle.cgs_divide.proofs.StepLemmas.{get_read, kept_step, kept_stop, taken_budget, taken_degree, taken_step, set_keeps, lengths_append}
 use Rattle.cgs_divide.proofs.StepLemmas.{same_stop}
 use Rattle.cgs_divide.proofs.division.divide_keeping.Goals as goal
 use Rattle.cgs_divide.proofs.division.divide_keeping.Goals.{In-Some, After-get-divisor, After-from_vec}
 use Rattle.cgs_algebra.proofs.PlaceLemmas.{monic_at}
 
+-- the terms that are kept whole
+
+lengths_of : (p : ℕ) (m : List ℕ) (f : List Term) → HaveLength p f → length m ≡ p → HaveLength (length m) f
+lengths_of p m f h e = subst (λ n. HaveLength n f) (sym e) h
+
+pub undivided-before-requires-clause-lengths : goal.undivided-before-requires-clause-lengths
+undivided-before-requires-clause-lengths c i l =
+    lengths_of (places c.args.ring.now) _ c.args.f.now (canonical_length c.args.ring.now c.args.f.now c.requires.poly.canonical)
+    (lead_at_length c.args.ring.now c.args.divisors.now (ring_positive c.args.ring.now c.requires.ring) c.requires.monic i l)
+
+pub undivided-before-requires-clause-places : goal.undivided-before-requires-clause-places
+undivided-before-requires-clause-places c =
+    all_weaker (λ (x : Term). length x.exponents ≡ places c.args.ring.now) _ c.args.f.now
+    (canonical_length c.args.ring.now c.args.f.now c.requires.poly.canonical)
+    (λ x e. omega (arith, e, c.requires.ring.variables, c.requires.ring.parameters))
+
+pub overflow_sub-fuel : goal.overflow_sub-fuel
+overflow_sub-fuel c = omega (arith, c.undivided-before.ensures, within_limit c.args.fuel.now c.args.divisors.now c.args.f.now)
+
+pub first_terms-requires : goal.first_terms-requires
+first_terms-requires c = omega (arith, c.undivided-before.ensures, within_terms c.args.fuel.now c.args.divisors.now c.args.f.now)
+
 pub loop-c-init : goal.loop-c-init
 loop-c-init c =
+    let k : ℕ = undivided c.args.fuel.now c.args.divisors.now c.args.f.now in
     let z : c.in_ok-quotients.quotients.items ≡ replicate c.args.kept [] = c.in_ok-quotients.ensures in
-    let w = c.whole-rest.ensures in
-    let e : left c.args.ring.now c.whole-rest.result c.args.f.now ≡ c.args.f.now =
-    rw (w.sum, w.from) (canonical_itself c.args.ring.now c.args.f.now (ring_positive c.args.ring.now c.requires.ring) c.requires.poly.canonical) in
+    let w = c.behind-rest.ensures in
+    let pos : 0 < c.args.ring.now.modulus = ring_positive c.args.ring.now c.requires.ring in
+    let from : c.behind-rest.result.from ≡ k = w.from ∙ c.undivided-before.ensures in
+    let e : left c.args.ring.now c.behind-rest.result c.args.f.now ≡ drop k c.args.f.now =
+    rw (w.sum, from) (canonical_itself c.args.ring.now (drop k c.args.f.now) pos (canonical_drop c.args.ring.now k c.args.f.now c.requires.poly.canonical)) in
     record {
       run = record {
         quotients = zeros c.args.divisors.now;
-        run = rw (e, c.zero-remainder.ensures) (sym (resumed_nothing c.args.ring.now c.args.divisors.now c.args.fuel.now c.args.f.now));
+        run = rw (e, c.in_ok-remainder.ensures, c.undivided-before.ensures)
+            (kept_front c.args.ring.now c.args.divisors.now c.requires.monic c.args.fuel.now c.args.f.now);
         kept = z ∙ zeros_front c.args.kept c.args.divisors.now c.requires.kept;
         places = zeros_length c.args.divisors.now;
       };
       rest = record {
         same = ap (λ (b : Contents). b.ring) w.sum;
         sum = rw w.sum (record { canonical = tt; low = tt });
-        from = omega (arith, w.from);
+        from = omega (arith, from, within_terms c.args.fuel.now c.args.divisors.now c.args.f.now);
       };
-      remainder = rw c.zero-remainder.ensures tt;
+      remainder = rw c.in_ok-remainder.ensures
+          (all_take (λ (x : Term). length x.exponents ≡ places c.args.ring.now) c.undivided-before.result c.args.f.now
+          (canonical_length c.args.ring.now c.args.f.now c.requires.poly.canonical));
       units = omega arith;
       tops = c.in_ok-tops.ensures;
       lengths = λ i. rw (z, empty_at c.args.kept i) tt;
@@ -71,6 +101,12 @@ seen_is : (c : In-Some) → seen c ≡ c.take_lead.new.out
 seen_is c = take_at c.take_lead.new.out (drop c.places-places.result c.loop-c.room) c.places-places.result
     (c.in-Some.ensures.out ∙ sym c.places-places.ensures)
 
+pub first_divisor-requires-clause-lengths : goal.first_divisor-requires-clause-lengths
+first_divisor-requires-clause-lengths c i l =
+    let s = (goal.at.first_divisor-requires-clause-lengths c).In-Some in
+    lead_at_length c.args.ring.now c.args.divisors.now (ring_positive c.args.ring.now c.requires.ring) c.requires.monic i l
+    ∙ sym (ap length (seen_is s) ∙ c.in-Some.ensures.out)
+
 -- the term goes to the remainder
 
 none_divides : (c : In-Some) → length c.args.divisors.now ≤ first_divisor c.args.divisors.now (seen c)
@@ -86,10 +122,10 @@ returns-in_err-spend-in-None-clause-budget c = λ e.
     (none_divides s (c.in-None.ensures.none refl)) c.in_err-spend-in-None.ensures.budget.0
     ∙ ap out_of_budget (sym c.in_err-spend-in-None.ensures.budget.1))
 
-pub loop-c-preserved-in-Continue-branch-5 : goal.loop-c-preserved-in-Continue-branch-5
-loop-c-preserved-in-Continue-branch-5 c =
+pub loop-c-preserved-in-Continue-branch-6 : goal.loop-c-preserved-in-Continue-branch-6
+loop-c-preserved-in-Continue-branch-6 c =
     let paid = c.in_ok-spend-in-None.ensures.ok in
-    let s = (goal.at.loop-c-preserved-in-Continue-branch-5 c).In-Some in
+    let s = (goal.at.loop-c-preserved-in-Continue-branch-6 c).In-Some in
     let r = c.loop-c.invariant.run in
     let pushed : c.push.new.self ≡ c.loop-c.remainder ++ leading s ∷ [] =
     c.in_ok-push-in-None.ensures.ok ∙ ap (λ m. c.loop-c.remainder ++ term c.in-Some.c m ∷ []) (seen_is s) in

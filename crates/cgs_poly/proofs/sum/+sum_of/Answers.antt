@@ -3,7 +3,7 @@ use Rattle.std.specs.List.{AllByRecursion}
 use Rattle.cgs_poly.specs.Polynomial.{Term, IsTerm, term, canonical}
 use Rattle.cgs_poly.proofs.PlaceLemmas.{take_one}
 use Rattle.cgs_poly.proofs.RingLemmas.{ring_positive}
-use Rattle.cgs_poly.proofs.TermLemmas.{part_of, part_terms, terms_have_length, canonical_sum, canonical_terms, sum_of_halves}
+use Rattle.cgs_poly.proofs.TermLemmas.{part_of, part_terms, canonical_sum, canonical_terms, sum_of_halves}
 use Rattle.cgs_poly.proofs.sum.+sum_of.Goals as goal
 use Rattle.cgs_poly.proofs.sum.+sum_of.Goals.{After-between-part}
 
@@ -16,7 +16,7 @@ returns-then-to-from-eq1-clause-sum t c =
 pub returns-clause-sum : goal.returns-clause-sum
 returns-clause-sum t c =
     let half : ℕ = c.args.from + (c.args.to - c.args.from) / 2 in
-    c.in_ok-sum-3.ensures.sum
+    c.in_ok-sum-2.ensures.sum
     ∙ sum_of_halves c.args.ring.now c.args.from half c.args.to c.args.terms.now c.in_ok-first.first c.in_ok-second.second
     (ring_positive c.args.ring.now c.requires.ring) c.requires.terms (omega arith) (omega (arith, c.requires.rising))
     c.in_ok-first.ensures.sum c.in_ok-second.ensures.sum
@@ -32,16 +32,13 @@ part_all c =
 pub are_canonical-requires : goal.are_canonical-requires
 are_canonical-requires t c = record { terms = part_all (goal.at.are_canonical-requires t c).After-between-part }
 
-pub copied-requires : goal.copied-requires
-copied-requires t c = terms_have_length c.args.ring.now c.between-part.result (part_all (goal.at.copied-requires t c).After-between-part)
-
 pub returns-then-are_canonical-clause-sum : goal.returns-then-are_canonical-clause-sum
 returns-then-are_canonical-clause-sum t c =
-    canonical_sum c.args.ring.now (part_of c.args.from c.args.to c.args.terms.now) c.between-part.result c.in_ok-sum-2.sum
-    (ring_positive c.args.ring.now c.requires.ring) (c.are_canonical.ensures.0 c.if-are_canonical.true) c.in_ok-sum-2.ensures
+    canonical_sum c.args.ring.now (part_of c.args.from c.args.to c.args.terms.now) c.between-part.result c.in_ok-terms.terms
+    (ring_positive c.args.ring.now c.requires.ring) (c.are_canonical.ensures.0 c.if-are_canonical.true) c.in_ok-terms.ensures
     (part_is (goal.at.returns-then-are_canonical-clause-sum t c).After-between-part)
 
 pub returns-then-are_canonical-clause-poly : goal.returns-then-are_canonical-clause-poly
 returns-then-are_canonical-clause-poly t c =
-    canonical_terms c.args.ring.now c.between-part.result c.in_ok-sum-2.sum (c.are_canonical.ensures.0 c.if-are_canonical.true)
-    (part_all (goal.at.returns-then-are_canonical-clause-poly t c).After-between-part) c.in_ok-sum-2.ensures
+    canonical_terms c.args.ring.now c.between-part.result c.in_ok-terms.terms (c.are_canonical.ensures.0 c.if-are_canonical.true)
+    (part_all (goal.at.returns-then-are_canonical-clause-poly t c).After-between-part) c.in_ok-terms.ensures

@@ -15,7 +15,7 @@ use cgs_entry::{Conditions, add};
 use cgs_point::{Point, PointFault, specialise, vanishes};
 use cgs_poly::{Poly, PolyList, Ring};
 use cgs_print::basis_text;
-use cgs_problem::{NameList, Problem, Text};
+use cgs_problem::{Problem, Text};
 use cgs_radical::test_empty;
 use std::alloc::Global;
 use std::test::Fail;
@@ -129,8 +129,8 @@ fn points(rt: HostRuntime) -> Result<(), Fail> {
     Ok(())
 }
 
-// The first polynomial, in the ring with one variable more, which stands first.
-fn raised(alloc: Global, problem: &Problem, names: &NameList) -> Result<Text, Fail>
+// The first polynomial, in the ring with one variable more, which stands first. The names are those of another problem.
+fn raised(alloc: Global, problem: &Problem, names: &str) -> Result<Text, Fail>
     requires { IsProblem problem.now }
 {
     let from = problem.ring;
@@ -143,11 +143,12 @@ fn raised(alloc: Global, problem: &Problem, names: &NameList) -> Result<Text, Fa
     };
     let f = poly_at(problem, 0).ok_or("no polynomial")?;
     let recast = Poly::recast(alloc, &from, &to, f)?;
-    printed(alloc, &to, names, &recast)
+    let named = problem_of(alloc, names, "")?;
+    printed(alloc, &to, &named.names, &recast)
 }
 
-// The first condition, in the ring with one variable.
-fn lifted(alloc: Global, problem: &Problem, names: &NameList) -> Result<Text, Fail>
+// The first condition, in the ring with one variable. The names are those of another problem.
+fn lifted(alloc: Global, problem: &Problem, names: &str) -> Result<Text, Fail>
     requires { IsProblem problem.now }
 {
     let from = problem.ring;
@@ -157,28 +158,21 @@ fn lifted(alloc: Global, problem: &Problem, names: &NameList) -> Result<Text, Fa
     };
     let f = condition_at(problem, 0).ok_or("no condition")?;
     let recast = Poly::recast(alloc, &from, &to, f)?;
-    printed(alloc, &to, names, &recast)
+    let named = problem_of(alloc, names, "")?;
+    printed(alloc, &to, &named.names, &recast)
 }
 
 #[test]
 fn recast(rt: HostRuntime) -> Result<(), Fail> {
-    let one = problem_of(
-        rt.alloc(),
-        "field 7\nparameters a\nvariables z\norder lex\n",
-        "",
-    )?;
-    let two = problem_of(
+    let problem = problem_of(
         rt.alloc(),
         "field 7\nparameters a\nvariables x y\norder grevlex\n",
         "poly a*x*y+3*y+a^2\nzero 2*a^2+6\n",
     )?;
-    let three = problem_of(
-        rt.alloc(),
-        "field 7\nparameters a\nvariables z x y\norder lex\n",
-        "",
-    )?;
-    assert!(rt; is_text(&raised(rt.alloc(), &two, &three.names)?, "a*x*y+3*y+a^2"));
-    assert!(rt; is_text(&lifted(rt.alloc(), &two, &one.names)?, "2*a^2+6"));
+    let three = "field 7\nparameters a\nvariables z x y\norder lex\n";
+    assert!(rt; is_text(&raised(rt.alloc(), &problem, three)?, "a*x*y+3*y+a^2"));
+    let one = "field 7\nparameters a\nvariables z\norder lex\n";
+    assert!(rt; is_text(&lifted(rt.alloc(), &problem, one)?, "2*a^2+6"));
     Ok(())
 }
 

@@ -141,8 +141,13 @@ fn node_found(alloc: Global, row: &NodeRow<'_>) -> Result<(Found, bool), Fail> {
         depth: 64,
     };
     let root = root_branch(alloc, &problem, &limits)?;
+    found_at(alloc, &root)
+}
+
+// What the node of a branch gives, and whether the branch differs from its children.
+fn found_at(alloc: Global, root: &Branch) -> Result<(Found, bool), Fail> {
     let outcome = root.node(alloc, &Path::root(alloc))?;
-    let differs = differs(alloc, &root, &outcome.children)?;
+    let differs = differs(alloc, root, &outcome.children)?;
     Ok((given_by(&outcome), differs))
 }
 

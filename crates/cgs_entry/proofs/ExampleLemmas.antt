@@ -3,21 +3,26 @@ use Rattle.std.proofs.Common.{ℕ, zero, suc, ◌≡◌, ◌+◌, ◌*◌, ◌%�
 use Rattle.std.proofs.Common.{arith, eqb}
 use Rattle.cgs_order.specs.TermOrder.{key, compared}
 use Rattle.std.proofs.Math.Nat.{add-mul-mod_self_right}
+use Rattle.std.specs.Prelude.{AllPairs}
 use Rattle.cgs_exps.specs.Monomial.{divides}
 use Rattle.cgs_exps.proofs.MonomialLemmas.{product_comm, one_product, divides_product}
 use Rattle.cgs_poly.specs.Product.{leading_monomial}
-use Rattle.cgs_poly.specs.Polynomial.{Term, term}
+use Rattle.cgs_poly.specs.Polynomial.{Term, IsCanonical, term}
 use Rattle.cgs_poly.specs.Parameters.{value_at, variables_ring, specialised_terms, specialised}
 use Rattle.cgs_poly.proofs.CanonicalLemmas.{is_canonical}
 use Rattle.cgs_poly.proofs.MultipleLemmas.{lead_length}
 use Rattle.cgs_algebra.specs.Combination.{IsMember}
-use Rattle.cgs_algebra.specs.Groebner.{IsMinimal}
+use Rattle.cgs_algebra.specs.Groebner.{IsMinimal, HaveLeadsApart}
+use Rattle.cgs_algebra.specs.Specialisation.{IsParametric}
 use Rattle.cgs_algebra.proofs.MemberLemmas.{scaled_member, generator_member}
 use Rattle.cgs_point.specs.Points.{IsPoint}
 use Rattle.cgs_entry.specs.Conditions.{IsInRegion}
-use Rattle.cgs_entry.specs.Entries.{IsBasisAt, entries_at}
+use Rattle.cgs_entry.specs.declared.entry.Entry.{Entry}
+use Rattle.cgs_entry.specs.Entries.{IsBasisAt, IsSound, IsComprehensive, entries_at}
 use Rattle.cgs_entry.specs.Examples.{seven, only_a, only_x, one, line, line_times_a, solved, LineIsSolved, GapIsRefused, OverlapIsRefused, WrongBasisIsRefused}
-use Rattle.cgs_entry.specs.Examples.{VanishingLeadIsRefused, RepeatedLeadIsRefused}
+use Rattle.cgs_entry.specs.Examples.{line_times_x, VanishingLeadIsRefused, RepeatedLeadIsRefused, DividedLeadIsRefused, NoCoefficientIsRefused, TurnedTermsAreRefused}
+use Rattle.cgs_entry.specs.Examples.{VariableInConditionIsRefused}
+use Rattle.std.specs.declared.cmp.Ordering.TheVariants.{Less, Greater}
 use Rattle.cgs_entry.proofs.SingleLemmas.{single_minimal}
 use Rattle.cgs_algebra.proofs.PlaceLemmas.{lead_at_place, only_lead}
 
@@ -38,15 +43,44 @@ overlap_refused h = let e = h.cover (1 ∷ []) (is_point 1 (omega arith)) in let
 
 pub vanishing_lead_refused : VanishingLeadIsRefused
 vanishing_lead_refused h =
-    let s : IsBasisAt seven (0 ∷ []) (line ∷ []) (line ∷ []) = h.sound.0 (0 ∷ []) (is_point 0 (omega arith)) (record { vanish = tt; stand = tt }) in
+    let s : IsBasisAt seven (0 ∷ []) (line ∷ []) (line ∷ []) = h.sound.0.serves.at (0 ∷ []) (is_point 0 (omega arith)) (record { vanish = tt; stand = tt }) in
     s.leading.0 refl
+
+-- at the point 1 the leads of two members of a basis are apart
+
+module _ (first second : List Term) where
+  abbrev with_two : List Entry
+  with_two = solved 0 [] (only_a ∷ []) (first ∷ second ∷ []) ∷ solved 1 (only_a ∷ []) [] (one ∷ []) ∷ []
+
+  abbrev at_one : List (List Term)
+  at_one = specialised seven (1 ∷ []) first ∷ specialised seven (1 ∷ []) second ∷ []
+
+  leads_apart : IsComprehensive seven [] [] (line ∷ []) with_two → AllPairs HaveLeadsApart at_one
+  leads_apart h =
+      let inside : IsInRegion seven [] (only_a ∷ []) (1 ∷ []) = record { vanish = tt; stand = (λ e. cc, tt) } in
+      let s : IsBasisAt seven (1 ∷ []) (line ∷ []) (first ∷ second ∷ []) = h.sound.0.serves.at (1 ∷ []) (is_point 1 (omega arith)) inside in
+      s.minimal.apart
 
 pub repeated_lead_refused : RepeatedLeadIsRefused
 unfolding key compared
-repeated_lead_refused h =
-    let inside : IsInRegion seven [] (only_a ∷ []) (1 ∷ []) = record { vanish = tt; stand = (λ e. cc, tt) } in
-    let s : IsBasisAt seven (1 ∷ []) (line ∷ []) (line ∷ line_times_a ∷ []) = h.sound.0 (1 ∷ []) (is_point 1 (omega arith)) inside in
-    (s.minimal.apart 0 1 [] (omega arith) (omega arith)).0 refl
+repeated_lead_refused h = (leads_apart line line_times_a h 0 1 [] (omega arith) (omega arith)).0 refl
+
+pub divided_lead_refused : DividedLeadIsRefused
+unfolding key compared
+divided_lead_refused h = (leads_apart line line_times_x h 0 1 [] (omega arith) (omega arith)).0 refl
+
+-- 7 is no coefficient
+pub no_coefficient_refused : NoCoefficientIsRefused
+no_coefficient_refused h = let third = h.sound.0.serves.canonical.0.4.4 in omega (arith, third.1)
+
+-- the second monomial is above the first
+pub turned_terms_refused : TurnedTermsAreRefused
+unfolding key compared
+turned_terms_refused h = let falls : Greater ≡ Less = h.sound.0.serves.canonical.0.3 in cc
+
+-- the exponent of x is 1
+pub variable_in_condition_refused : VariableInConditionIsRefused
+variable_in_condition_refused h = let free : ◌≡◌ {A = List ℕ} (1 ∷ []) (0 ∷ []) = h.sound.0.nonzero.0.free.0 in cc
 
 -- what holds of 0 to 6 holds of each number below 7
 at_seven : (P : ℕ → Type 0) → P 0 → P 1 → P 2 → P 3 → P 4 → P 5 → P 6 → (n : ℕ) → n < 7 → P n
@@ -74,7 +108,7 @@ six_member =
 pub wrong_basis_refused : WrongBasisIsRefused
 unfolding key compared
 wrong_basis_refused h =
-    let s : IsBasisAt seven (0 ∷ []) (line ∷ []) (only_x ∷ []) = h.sound.1.0 (0 ∷ []) (is_point 0 (omega arith)) (record { vanish = (refl, tt); stand = tt }) in
+    let s : IsBasisAt seven (0 ∷ []) (line ∷ []) (only_x ∷ []) = h.sound.1.0.serves.at (0 ∷ []) (is_point 0 (omega arith)) (record { vanish = (refl, tt); stand = tt }) in
     let d = s.minimal.groebner.leads six (omega arith, omega arith, refl, tt, tt) six_member (λ e. cc) in
     let e = only_lead (term 1 (1 ∷ []) ∷ []) (leading_monomial six) d in cc
 
@@ -141,12 +175,36 @@ unless_zero n l =
     not_zero : (k : ℕ) → suc k ≡ 0 → ⊥
     not_zero k e = omega arith
 
+a_parametric : IsParametric seven only_a
+a_parametric = record { canonical = (omega arith, omega arith, refl, tt, tt); free = (refl, tt) }
+
+line_canonical : IsCanonical seven line
+unfolding key compared
+line_canonical = (omega arith, omega arith, refl, refl, (omega arith, omega arith, refl, tt, tt))
+
 pub line_solved : LineIsSolved
 line_solved = record {
   cover = by_number (λ a. entries_at seven a (solved 0 [] (only_a ∷ []) (line ∷ []) ∷ solved 1 (only_a ∷ []) [] (one ∷ []) ∷ []) ≡ 1)
       (λ n l. cover_at n (eqb (value_at seven (n ∷ []) only_a) 0) refl);
-  sound = (
-    by_number (λ a. IsInRegion seven [] (only_a ∷ []) a → IsBasisAt seven a (line ∷ []) (line ∷ [])) (λ n l inside. line_serves n l inside.stand.0),
-    (by_number (λ a. IsInRegion seven (only_a ∷ []) [] a → IsBasisAt seven a (line ∷ []) (one ∷ [])) (λ n l inside. unless_zero n l inside.vanish.0), tt),
-  );
+  sound = (first_sound, (second_sound, tt));
 }
+  where
+    first_sound : IsSound seven (line ∷ []) (solved 0 [] (only_a ∷ []) (line ∷ []))
+    first_sound = record {
+      zero = tt;
+      nonzero = (a_parametric, tt);
+      serves = record {
+        canonical = (line_canonical, tt);
+        at = by_number (λ a. IsInRegion seven [] (only_a ∷ []) a → IsBasisAt seven a (line ∷ []) (line ∷ [])) (λ n l inside. line_serves n l inside.stand.0);
+      };
+    }
+
+    second_sound : IsSound seven (line ∷ []) (solved 1 (only_a ∷ []) [] (one ∷ []))
+    second_sound = record {
+      zero = (a_parametric, tt);
+      nonzero = tt;
+      serves = record {
+        canonical = ((omega arith, omega arith, refl, tt, tt), tt);
+        at = by_number (λ a. IsInRegion seven (only_a ∷ []) [] a → IsBasisAt seven a (line ∷ []) (one ∷ [])) (λ n l inside. unless_zero n l inside.vanish.0);
+      };
+    }

@@ -56,3 +56,35 @@ VanishingLeadIsRefused = ¬ (IsComprehensive seven [] [] (line ∷ []) (solved 0
 abbrev pub RepeatedLeadIsRefused : Type 0
 RepeatedLeadIsRefused =
     ¬ (IsComprehensive seven [] [] (line ∷ []) (solved 0 [] (only_a ∷ []) (line ∷ line_times_a ∷ []) ∷ solved 1 (only_a ∷ []) [] (one ∷ []) ∷ []))
+
+-- x*(a*x - 1)
+abbrev pub line_times_x : List Term
+line_times_x = term 1 (2 ∷ 1 ∷ []) ∷ term 6 (1 ∷ 0 ∷ []) ∷ []
+
+-- nor are the line and the line times x: the first lead divides the second
+abbrev pub DividedLeadIsRefused : Type 0
+DividedLeadIsRefused =
+    ¬ (IsComprehensive seven [] [] (line ∷ []) (solved 0 [] (only_a ∷ []) (line ∷ line_times_x ∷ []) ∷ solved 1 (only_a ∷ []) [] (one ∷ []) ∷ []))
+
+-- the basis a*x + 6 + 7*x^9 where a is not 0, and 1 where a is 0: 7 is no coefficient modulo 7, and x^9 stands behind 1
+abbrev pub line_with_zero : List Term
+line_with_zero = term 1 (1 ∷ 1 ∷ []) ∷ term 6 (0 ∷ 0 ∷ []) ∷ term 7 (9 ∷ 0 ∷ []) ∷ []
+
+abbrev pub NoCoefficientIsRefused : Type 0
+NoCoefficientIsRefused =
+    ¬ (IsComprehensive seven [] [] (line ∷ []) (solved 0 [] (only_a ∷ []) (line_with_zero ∷ []) ∷ solved 1 (only_a ∷ []) [] (one ∷ []) ∷ []))
+
+-- the line with its terms the other way round: no point is a zero of 6, its first coefficient
+abbrev pub line_turned : List Term
+line_turned = term 6 (0 ∷ 0 ∷ []) ∷ term 1 (1 ∷ 1 ∷ []) ∷ []
+
+abbrev pub TurnedTermsAreRefused : Type 0
+TurnedTermsAreRefused = ¬ (IsComprehensive seven [] [] (line ∷ []) (solved 0 [] [] (line_turned ∷ []) ∷ []))
+
+-- a*x, which has a variable, in the place of a among the conditions
+abbrev pub a_times_x : List Term
+a_times_x = term 1 (1 ∷ 1 ∷ []) ∷ []
+
+abbrev pub VariableInConditionIsRefused : Type 0
+VariableInConditionIsRefused =
+    ¬ (IsComprehensive seven [] [] (line ∷ []) (solved 0 [] (a_times_x ∷ []) (line ∷ []) ∷ solved 1 (only_a ∷ []) [] (one ∷ []) ∷ []))

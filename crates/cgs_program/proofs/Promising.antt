@@ -31,7 +31,7 @@ use Rattle.cgs_print.proofs.ValidLemmas.{spelled_problem}
 use Rattle.cgs_list.proofs.ListLemmas.{all_append, all_weaker}
 use Rattle.cgs_split.proofs.ShowingLemmas.{entries_show_one}
 use Rattle.cgs_split.specs.declared.kind.Limits.{Limits}
-use Rattle.cgs_system.proofs.Listing.{listed_comprehensive, listed_of_ring}
+use Rattle.cgs_system.proofs.Listing.{listed_comprehensive, listed_of_ring, listed_consistent}
 use Rattle.cgs_words.specs.declared.plan.Command.TheVariants.{Basis, Solve, Locate, Discover, Stress}
 use Rattle.cgs_words.specs.declared.plan.Plan.{Plan}
 use Rattle.cgs_words.specs.declared.plan.WordFault.{WordFault}
@@ -202,12 +202,15 @@ system_of : (limits : Limits) (problem : Problem) → IsProblem problem → IsSy
 system_of limits problem valid =
     let entries = entries_within limits problem in
     let comprehensive = listed_comprehensive problem limits entries valid refl in
+    let of_ring = listed_of_ring problem limits entries valid refl in
     record {
       of_tree = refl;
+      of_ring = of_ring;
       comprehensive = comprehensive;
       reported =
-          all_reported problem entries valid comprehensive.sound (listed_of_ring problem limits entries valid refl)
+          all_reported problem entries valid comprehensive.sound of_ring
           (entries_show_one problem.ring limits problem.zero problem.nonzero problem.polys);
+      consistent = listed_consistent problem limits entries valid refl;
     }
 
 keeps_system : (words : List (List ℕ)) (a b c d : Seen) (end : Status) → Ends (plan_of words) a b c d end → KeepsSystem words a b c d end

@@ -14,7 +14,7 @@ use Rattle.cgs_point.specs.Points.{IsPoint}
 use Rattle.cgs_entry.specs.declared.entry.Entry.{Entry}
 use Rattle.cgs_entry.specs.Bases.{basis_of}
 use Rattle.cgs_entry.specs.Conditions.{IsInRegion}
-use Rattle.cgs_entry.specs.Entries.{IsComprehensive, is_refused}
+use Rattle.cgs_entry.specs.Entries.{IsComprehensive, IsEntry, is_refused}
 use Rattle.cgs_gen.specs.Generator.{problem_of}
 use Rattle.cgs_locate.specs.declared.search.Located.{Located}
 use Rattle.cgs_locate.specs.Located.{located}
@@ -27,6 +27,7 @@ use Rattle.cgs_print.specs.Printing.{basis_text, list_text}
 use Rattle.cgs_print.specs.Locating.{located_text}
 use Rattle.cgs_print.specs.Discovery.{discovered_text}
 use Rattle.cgs_print.specs.Summary.{summary_text}
+use Rattle.cgs_split.specs.Laws.{IsConsistentIfTested}
 use Rattle.cgs_split.specs.declared.kind.Limits.{Limits}
 use Rattle.cgs_words.specs.declared.plan.Command.{Command}
 use Rattle.cgs_words.specs.declared.plan.Command.TheVariants.{Basis, Solve, Locate, Discover, Stress}
@@ -66,12 +67,15 @@ IsReported problem entry =
     → IsInRegion problem.ring entry.conditions.zero entry.conditions.nonzero point
     → IsTrueOf (variables_ring problem.ring) (specialised_list problem.ring point problem.polys) (findings_of problem.ring (basis_of entry.kind))
 
--- The entries are those of the problem's tree, for every number of workers and every order in which they work, and are comprehensive. What is
--- told of each is so.
+-- The entries are those of the problem's tree, for every number of workers and every order in which they work. Their polynomials are of the
+-- problem's ring, with no degree above the greatest, and the entries are comprehensive. What is told of each is so, and one that is not called
+-- untested has conditions that do not contradict each other.
 pub record IsSystemOf (limits : Limits) (problem : Problem) (entries : List Entry) : Type 0 where
   pub of_tree : entries ≡ entries_within limits problem
+  pub of_ring : AllByRecursion (IsEntry problem.ring) entries
   pub comprehensive : IsComprehensive problem.ring problem.zero problem.nonzero problem.polys entries
   pub reported : AllByRecursion (IsReported problem) entries
+  pub consistent : AllByRecursion (IsConsistentIfTested problem.ring) entries
 
 -- The text of a comprehensive list of entries was written. Where it is asked, a history of the problem's tree by the workers follows it. The
 -- status tells whether an entry is refused.

@@ -12,3 +12,4 @@ pub mod CodeLemmas
 pub mod ExampleLemmas
 pub mod OfRingLemmas
 pub mod ShowingLemmas
+pub mod TestedLemmas

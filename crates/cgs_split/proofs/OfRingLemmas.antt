@@ -4,7 +4,7 @@ use Rattle.std.specs.Prelude.{IfSome}
 use Rattle.std.specs.List.{AllByRecursion}
 use Rattle.cgs_list.proofs.ListLemmas.{all_append}
 use Rattle.cgs_poly.specs.Ring.{Ring}
-use Rattle.cgs_poly.specs.Polynomial.{Term, IsPoly, one, ArePolys}
+use Rattle.cgs_poly.specs.Polynomial.{Term, IsRing, IsPoly, one, ArePolys}
 use Rattle.cgs_algebra.specs.Stability.{parametric_members, other_members}
 use Rattle.cgs_divide.specs.AutoreductionRun.{ListRun, done}
 use Rattle.cgs_divide.specs.AutoreductionRun as list
@@ -23,6 +23,7 @@ use Rattle.cgs_board.specs.Tree.{each_from, preorder_to, preorder, entry_at, ent
 use Rattle.cgs_split.specs.declared.kind.BranchKind.{BranchKind}
 use Rattle.cgs_split.specs.declared.kind.BranchKind.TheVariants.{Split, Main}
 use Rattle.cgs_split.specs.declared.kind.BranchKind.TheVariants.{Unit as UnitKind}
+use Rattle.cgs_split.specs.declared.kind.Limits.{Limits}
 use Rattle.cgs_split.specs.Cases.{Case, case_like, IsPrepared}
 use Rattle.cgs_split.specs.Nodes.{unit_children, split_children, main_child, children_of}
 use Rattle.cgs_split.specs.NodeRun.{Node, settled, by_kind, is_too_deep, after_basis, without_test, with_points, after_emptiness, node_of, height_of}
@@ -79,7 +80,7 @@ pub record IsCase (ring : Ring) (branch : Case) : Type 0 where
   pub prepared : IsPrepared ring branch.zero branch.nonzero branch.polys
 
 -- a node whose entry and whose children are over the ring
-abbrev IsNodeOver : Ring → Node → Type 0
+abbrev pub IsNodeOver : Ring → Node → Type 0
 IsNodeOver ring node = IfSome node.0 (IsEntry ring) × AllByRecursion (IsCase ring) node.1
 
 -- the node of a branch over its own ring
@@ -181,14 +182,19 @@ module _ (branch : Case) (path : List ℕ) (h : IsPrepared branch.ring branch.ze
       by_depth true run = settled_over (Refused Depth) tt
       by_depth false run = emptiness_over run
 
-node_is_over : (ring : Ring) (branch : Case) (path : List ℕ) → IsCase ring branch → IsNodeOver ring (node_of branch path)
+pub node_is_over : (ring : Ring) (branch : Case) (path : List ℕ) → IsCase ring branch → IsNodeOver ring (node_of branch path)
 node_is_over ring branch path h =
     let prepared = subst (λ ring. IsPrepared ring branch.zero branch.nonzero branch.polys) (sym h.of) h.prepared in
     subst (λ ring. IsNodeOver ring (node_of branch path)) h.of (node_over branch path prepared)
 
+-- the branch of given polynomials under given conditions
+pub root_is_case : (ring : Ring) (limits : Limits) (E N F : List (List Term)) → IsRing ring → AllByRecursion (IsCondition ring) E
+    → AllByRecursion (IsCondition ring) N → ArePolys ring F → IsCase ring (root_case ring limits E N F)
+root_is_case ring limits E N F r e n f = record {
+  of = refl;
+  prepared = record { valid = r; zero = conditions_with_all ring r [] E tt e; nonzero = conditions_with_all ring r [] N tt n; polys = f };
+}
+
 pub entries_are_of_ring : EntriesAreOfRing
 entries_are_of_ring ring limits E N F r e n f =
-    let zero_ok = conditions_with_all ring r [] E tt e in
-    let nonzero_ok = conditions_with_all ring r [] N tt n in
-    tree_each node_of (IsCase ring) (IsEntry ring) (node_is_over ring) height_of (root_case ring limits E N F)
-    (record { of = refl; prepared = record { valid = r; zero = zero_ok; nonzero = nonzero_ok; polys = f } })
+    tree_each node_of (IsCase ring) (IsEntry ring) (node_is_over ring) height_of (root_case ring limits E N F) (root_is_case ring limits E N F r e n f)

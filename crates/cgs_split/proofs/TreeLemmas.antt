@@ -119,17 +119,30 @@ module _ (ring : Ring) (r : IsRing ring) where
 
   -- the basis of a node's own entry
 
+  one_polys : AllByRecursion (IsCanonical ring) (one ring ∷ [])
+  one_polys = (one_canonical ring field.two, tt)
+
   node_based : (branch : Case) → IsBranch ring branch → IsGood ring branch → (path : List ℕ) (own : List Entry) (children : List Case)
       → IsNode ring branch path own children → AllByRecursion (IsSound ring branch.polys) own
   node_based branch ok good path own children (empty k) = tt
-  node_based branch ok good path own children (refused k cause) = (tt, tt)
+  node_based branch ok good path own children (refused k cause) = (record { zero = ok.zero; nonzero = ok.nonzero; serves = tt }, tt)
   node_based branch ok good path own children (divided k G M basis) = tt
-  node_based branch ok good path own children (solved k tested) = (λ a point i. by_good a i good, tt)
+  node_based branch ok good path own children (solved k tested) = (
+    record { zero = ok.zero; nonzero = ok.nonzero; serves = record { canonical = ok.polys; at = λ a point i. by_good a i good } },
+    tt,
+  )
     where
       by_good : (a : List ℕ) → IsPointOf ring a branch → IsGood ring branch → IsBasisAt ring a branch.polys branch.polys
       by_good a i (inl e) = absurd (k e)
       by_good a i (inr g) = g a i
-  node_based branch ok good path own children (whole k basis tested) = (λ a point i. one_basis ring a field.two branch.polys (one_there a i), tt)
+  node_based branch ok good path own children (whole k basis tested) = (
+    record {
+      zero = ok.zero;
+      nonzero = ok.nonzero;
+      serves = record { canonical = one_polys; at = λ a point i. one_basis ring a field.two branch.polys (one_there a i) };
+    },
+    tt,
+  )
     where
       one_there : (a : List ℕ) → IsPointOf ring a branch → IsMember (variables_ring ring) (specialised_list ring a branch.polys) (specialised ring a (one ring))
       one_there a i =
@@ -173,17 +186,32 @@ module _ (ring : Ring) (r : IsRing ring) where
               (s.0.ideal a k) (h.ideal a point (s.1 a point k));
         })
 
+    -- an entry with the branch's conditions that is sound for the branch's polynomials is so for F
+    moved : (branch : Case) → IsOf branch → (path : List ℕ) (kind : EntryKind) → IsSound ring branch.polys (entry_of branch path kind)
+        → IsSound ring F (entry_of branch path kind)
+    moved branch h path (Refused cause) s = record { zero = s.zero; nonzero = s.nonzero; serves = tt }
+    moved branch h path (Solved basis tested) s = record {
+      zero = s.zero;
+      nonzero = s.nonzero;
+      serves = record {
+        canonical = s.serves.canonical;
+        at = λ a point i. basis_of_same ring a branch.polys F basis (h.ideal a point i) (s.serves.at a point i);
+      };
+    }
+
     own_based : (branch : Case) → IsOf branch → (path : List ℕ) (own : List Entry) (children : List Case) → IsNode ring branch path own children
         → AllByRecursion (IsSound ring F) own
     own_based branch h path own children (empty k) = tt
-    own_based branch h path own children (refused k cause) = (tt, tt)
+    own_based branch h path own children (refused k cause) =
+        let b = node_based branch h.valid h.good path (entry_of branch path (Refused cause) ∷ []) [] (refused k cause) in
+        (moved branch h path (Refused cause) b.0, tt)
     own_based branch h path own children (divided k G M basis) = tt
     own_based branch h path own children (solved k tested) =
         let b = node_based branch h.valid h.good path (entry_of branch path (Solved branch.polys tested) ∷ []) [] (solved k tested) in
-        (λ a point i. basis_of_same ring a branch.polys F branch.polys (h.ideal a point i) (b.0 a point i), tt)
+        (moved branch h path (Solved branch.polys tested) b.0, tt)
     own_based branch h path own children (whole k basis tested) =
         let b = node_based branch h.valid h.good path (entry_of branch path (Solved (one ring ∷ []) tested) ∷ []) [] (whole k basis tested) in
-        (λ a point i. basis_of_same ring a branch.polys F (one ring ∷ []) (h.ideal a point i) (b.0 a point i), tt)
+        (moved branch h path (Solved (one ring ∷ []) tested) b.0, tt)
 
     trees_based : (branches : List Case) (entries : List Entry) → AreTreesOf ring branches entries → AllByRecursion IsOf branches
         → AllByRecursion (IsSound ring F) entries

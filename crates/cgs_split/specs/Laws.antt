@@ -1,13 +1,16 @@
 -- The laws of nodes and trees, as facts.
-use Rattle.std.specs.Prelude.{ℕ, List, [], ◌∷◌, map}
+use Rattle.std.specs.Prelude.{ℕ, IsTrue, List, [], ◌∷◌, map}
 use Rattle.std.specs.List.{AllByRecursion}
 use Rattle.cgs_poly.specs.Ring.{Ring}
 use Rattle.cgs_poly.specs.Polynomial.{Term, IsRing, IsCanonical, ArePolys}
 use Rattle.cgs_algebra.specs.Specialisation.{IsParametric}
 use Rattle.cgs_entry.specs.declared.entry.Entry.{Entry}
+use Rattle.cgs_entry.specs.declared.entry.EntryKind.{EntryKind}
+use Rattle.cgs_entry.specs.declared.entry.EntryKind.TheVariants.{Solved, Refused}
 use Rattle.cgs_poly.specs.Parameters.{IsCondition}
 use Rattle.cgs_entry.specs.Bases.{ShowsOne}
 use Rattle.cgs_entry.specs.Entries.{IsComprehensive, IsEntry}
+use Rattle.cgs_radical.specs.Laws.{Contradict}
 use Rattle.cgs_board.specs.Tree.{entries_of, Falls}
 use Rattle.cgs_split.specs.declared.kind.Limits.{Limits}
 use Rattle.cgs_split.specs.Cases.{Case}
@@ -56,6 +59,21 @@ EntriesAreOfRing =
 abbrev pub EntriesShowOne : Type 0
 EntriesShowOne = (ring : Ring) (limits : Limits) (zero nonzero polys : List (List Term))
     → AllByRecursion (ShowsOne ring) (entry_list ring limits zero nonzero polys)
+
+-- where the search for a contradiction in the conditions of an entry came to its end, it found none
+abbrev pub IsConsistentIfTested : Ring → Entry → Type 0
+IsConsistentIfTested ring entry =
+    elim entry.kind [
+      | Solved basis tested ↦ (IsTrue tested → ¬ (Contradict ring entry.conditions.zero entry.conditions.nonzero))
+      | Refused cause ↦ Unit {0}
+    ]
+
+-- so it is with each entry
+abbrev pub TestedAreConsistent : Type 0
+TestedAreConsistent =
+    (ring : Ring) (limits : Limits) (zero nonzero polys : List (List Term)) → IsRing ring → AllByRecursion (IsCondition ring) zero
+    → AllByRecursion (IsCondition ring) nonzero → ArePolys ring polys
+    → AllByRecursion (IsConsistentIfTested ring) (entry_list ring limits zero nonzero polys)
 
 -- heights fall
 abbrev pub HeightsFall : Type 0

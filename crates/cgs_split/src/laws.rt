@@ -2,7 +2,7 @@
 
 ghost use Rattle.cgs_split.specs.Examples.{ContradictionExample, GivenConditionExample, HighDegreeExample, LineExamples, NothingExample, TwoMembersExample, UnitExample};
 ghost use Rattle.cgs_split.specs.Examples.{MissingCoefficientIsRefused, NotMinimalIsRefused, OldZerosAreRefused, OverlapIsRefused};
-ghost use Rattle.cgs_split.specs.Laws.{EntriesAreOfRing, EntriesShowOne, HeightsFall, ListIsComprehensive, NodeIsSound, NodesAreNodes, TreeIsComprehensive};
+ghost use Rattle.cgs_split.specs.Laws.{EntriesAreOfRing, EntriesShowOne, HeightsFall, ListIsComprehensive, NodeIsSound, NodesAreNodes, TestedAreConsistent, TreeIsComprehensive};
 
 /// Each point of a good branch's region lies in its entry's region or in one child's, and no other point does; a basis is one of what
 /// the polynomials become there, and the children are good branches of the same ideal.
@@ -34,6 +34,11 @@ pub fn entries_are_of_ring()
 /// That basis is 1 alone, or has variables in each member: so it shows whether 1 is in the ideal at its points.
 pub fn entries_show_one()
     ensures { EntriesShowOne }
+{}
+
+/// Where an entry of that list is tested, its conditions do not contradict each other.
+pub fn tested_are_consistent()
+    ensures { TestedAreConsistent }
 {}
 
 /// The height of a branch is above that of its children.

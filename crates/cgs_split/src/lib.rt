@@ -18,6 +18,7 @@ pub use branch::Branch;
 pub use kind::{BranchKind, Limits};
 pub use laws::{
     entries_are_of_ring, entries_show_one, heights_fall, list_is_comprehensive, node_is_sound,
-    nodes_are_nodes, other_children_are_refused, tree_examples, tree_is_comprehensive,
+    nodes_are_nodes, other_children_are_refused, tested_are_consistent, tree_examples,
+    tree_is_comprehensive,
 };
 pub use root::root_branch;

@@ -9,12 +9,13 @@ use Rattle.cgs_problem.specs.Problems.{IsProblem}
 use Rattle.cgs_radical.proofs.TestLemmas.{conditions_parametric}
 use Rattle.cgs_split.specs.declared.kind.Limits.{Limits}
 use Rattle.cgs_split.specs.NodeRun.{node_of, height_of}
-use Rattle.cgs_split.specs.Laws.{entry_list}
+use Rattle.cgs_split.specs.Laws.{entry_list, IsConsistentIfTested}
 use Rattle.cgs_split.specs.Heights.{heights_fall}
 use Rattle.cgs_list.proofs.ListLemmas.{all_weaker}
 use Rattle.cgs_split.proofs.PreorderLemmas.{nodes_comprehensive}
 use Rattle.cgs_split.proofs.NodeRunLemmas.{node_is_node}
 use Rattle.cgs_split.proofs.OfRingLemmas.{entries_are_of_ring}
+use Rattle.cgs_split.proofs.TestedLemmas.{tested_are_consistent}
 use Rattle.cgs_system.specs.ExactList.{IsExactList, IsTested}
 use Rattle.cgs_system.proofs.ExactTreeLemmas.{tested_exact}
 
@@ -40,6 +41,11 @@ module _ (problem : Problem) (limits : Limits) (entries : List Entry) (valid : I
   listed_of_ring =
       subst (λ entries. AllByRecursion (IsEntry problem.ring) entries) (sym listed)
       (entries_are_of_ring problem.ring limits problem.zero problem.nonzero problem.polys valid.ring valid.zero valid.nonzero valid.polys)
+
+  pub listed_consistent : AllByRecursion (IsConsistentIfTested problem.ring) entries
+  listed_consistent =
+      subst (λ entries. AllByRecursion (IsConsistentIfTested problem.ring) entries) (sym listed)
+      (tested_are_consistent problem.ring limits problem.zero problem.nonzero problem.polys valid.ring valid.zero valid.nonzero valid.polys)
 
   pub listed_exact : AllByRecursion IsTested entries → IsExactList problem.ring problem.zero problem.nonzero problem.polys entries
   listed_exact tested =

@@ -5,7 +5,7 @@ ghost use Rattle.std.specs.List.{AllByRecursion};
 ghost use Rattle.cgs_board.specs.History.{IsComplete};
 ghost use Rattle.cgs_problem.specs.Problems.{IsProblem};
 ghost use Rattle.cgs_entry.specs.Entries.{IsComprehensive, IsEntry};
-ghost use Rattle.cgs_split.specs.Laws.{entry_list};
+ghost use Rattle.cgs_split.specs.Laws.{entry_list, IsConsistentIfTested};
 ghost use Rattle.cgs_split.specs.NodeRun.{node_of};
 ghost use Rattle.cgs_split.specs.Trees.{root_case};
 ghost use Rattle.cgs_system.specs.ExactList.{IsExactList, IsTested};
@@ -34,6 +34,7 @@ pub fn solve<R: Threads + Wait + Sync, G: Gate + Sync>(
     ensures comprehensive { IfOk result (λ solution. IsComprehensive problem.now.ring problem.now.zero problem.now.nonzero problem.now.polys solution.entries) }
     ensures exact { IfOk result (λ solution. AllByRecursion IsTested solution.entries → IsExactList problem.now.ring problem.now.zero problem.now.nonzero problem.now.polys solution.entries) }
     ensures of_ring { IfOk result (λ solution. AllByRecursion (IsEntry problem.now.ring) solution.entries) }
+    ensures consistent { IfOk result (λ solution. AllByRecursion (IsConsistentIfTested problem.now.ring) solution.entries) }
 {
     let root = root_branch(alloc, problem, limits)?;
     let board = run_board(rt, alloc, root, workers, gate)?;

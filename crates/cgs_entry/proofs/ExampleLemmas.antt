@@ -178,7 +178,7 @@ unless_zero n l =
 a_parametric : IsParametric seven only_a
 a_parametric = record { canonical = (omega arith, omega arith, refl, tt, tt); free = (refl, tt) }
 
-line_canonical : IsCanonical seven line
+pub line_canonical : IsCanonical seven line
 unfolding key compared
 line_canonical = (omega arith, omega arith, refl, refl, (omega arith, omega arith, refl, tt, tt))
 

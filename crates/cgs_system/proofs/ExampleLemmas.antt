@@ -1,10 +1,10 @@
 -- The list of a*x - 1 is exact since no limit touched it, and others are not since there is one exact list.
 use Rattle.std.proofs.Common.{ℕ, ◌≡◌, List, [], ◌∷◌, map, refl, sym, ap, subst, arith}
 use Rattle.std.specs.List.{AllByRecursion}
-use Rattle.cgs_order.specs.TermOrder.{key, compared}
-use Rattle.cgs_poly.specs.Polynomial.{IsRing, IsCanonical}
+use Rattle.cgs_poly.specs.Polynomial.{IsRing}
 use Rattle.cgs_entry.specs.declared.entry.Entry.{Entry}
 use Rattle.cgs_entry.specs.Examples.{seven, only_a, one, line}
+use Rattle.cgs_entry.proofs.ExampleLemmas.{line_canonical}
 use Rattle.cgs_split.specs.Examples.{list_of, untested}
 use Rattle.cgs_system.specs.ExactList.{IsTested}
 use Rattle.cgs_system.specs.Examples.{where_a_stands, where_a_vanishes, IsExactForLine, LineListIsExact, GapIsRefused, OtherOrderIsRefused, UntestedIsRefused}
@@ -13,10 +13,6 @@ use Rattle.cgs_system.proofs.ExactTreeLemmas.{tested_exact}
 
 seven_ring : IsRing seven
 seven_ring = record { modulus = refl; some = omega arith; variables = omega arith; parameters = omega arith }
-
-line_canonical : IsCanonical seven line
-unfolding key compared
-line_canonical = (omega arith, omega arith, refl, refl, (omega arith, omega arith, refl, tt, tt))
 
 pub line_exact : (budget depth : ℕ) → list_of budget depth [] [] (line ∷ []) ≡ where_a_stands ∷ where_a_vanishes ∷ [] → LineListIsExact
 line_exact budget depth e =

@@ -12,7 +12,7 @@ use Rattle.cgs_board.specs.declared.event.Event.{Event}
 use Rattle.cgs_board.specs.declared.event.Event.TheVariants.{Claim, Give, Quit}
 use Rattle.cgs_board.specs.Tree.{branch_at, branch_below, entry_at, entry_of, entries_of, branches_of, Falls}
 use Rattle.cgs_board.specs.History.{IsGiven, IsOffered, MayFollow, IsLegal, is_give, gives_of}
-use Rattle.cgs_board.specs.Laws.{FinishedIsComplete}
+use Rattle.cgs_board.specs.Laws.{FinishedIsComplete, CompleteGivesAll}
 use Rattle.cgs_board.specs.Slots.{brought}
 use Rattle.cgs_board.proofs.HistoryLemmas.{given_within, within_push, given_node, given_is_claimed, finished_came_back}
 use Rattle.cgs_board.proofs.TreeLemmas.{branch_below_first, branch_at_child}
@@ -227,15 +227,18 @@ module _ {J E : Type 0} (node : J → List ℕ → Option E × List J) where
     pub gives_most : gives_of h ≤ length (branches_of node height root [])
     gives_most = omega (arith, gives_are, no_longer came (branches_of node height root []) came_once came_in_tree)
 
-    -- all came back
-    pub gives_all : ((path : List ℕ) → IsOffered path h → IsGiven path h) → gives_of h ≡ length (branches_of node height root [])
-    gives_all back =
+    -- each branch of the tree came back
+    pub gives_all : ((path : List ℕ) (branch : J) → branch_at node root path ≡ Some branch → IsGiven path h)
+        → gives_of h ≡ length (branches_of node height root [])
+    gives_all given =
         let up = rises_preorder node itself height itself_keyed (λ b p. (tt, tt)) root [] in
         let fewer = no_longer (branches_of node height root []) came (rises_repeats_none (branches_of node height root []) up)
         (λ x m.
         let r = preorder_in node itself height root [] x m in
         let at : r.0 ≡ x.0 = sym (itself_keyed r.1 r.0 x r.3) in
         let is : branch_at node root x.0 ≡ Some r.1 = ap (branch_at node root) (sym at) ∙ r.2 in
-        in_all_brought node root itself itself_keyed h r.1 x (all_given node root workers h legal back x.0 r.1 is) is
-        (subst (λ p. In x (itself r.1 p)) at r.3)) in
+        in_all_brought node root itself itself_keyed h r.1 x (given x.0 r.1 is) is (subst (λ p. In x (itself r.1 p)) at r.3)) in
         omega (arith, gives_are, gives_most, fewer)
+
+  pub complete_gives_all : (height : J → List ℕ → ℕ) → Falls node height → CompleteGivesAll node height
+  complete_gives_all height falls root workers h c = gives_all height falls root workers h c.legal c.given

@@ -1,10 +1,10 @@
 -- What holds of all trees and histories.
-use Rattle.std.specs.Prelude.{◌≡◌, ℕ, ◌<◌, List, [], ◌∷◌, ◌++◌, Option, Some, slice_get}
+use Rattle.std.specs.Prelude.{◌≡◌, ℕ, ◌<◌, List, [], ◌∷◌, ◌++◌, length, Option, Some, slice_get}
 use Rattle.std.specs.declared.cmp.Ordering.TheVariants.{Less}
 use Rattle.cgs_path.specs.PathOrder.{compared}
 use Rattle.cgs_board.specs.declared.event.Event.{Event}
-use Rattle.cgs_board.specs.History.{IsLegal, IsFinished, IsComplete, HasQuit}
-use Rattle.cgs_board.specs.Tree.{entries_of, entry_of, each_from}
+use Rattle.cgs_board.specs.History.{IsLegal, IsFinished, IsComplete, HasQuit, gives_of}
+use Rattle.cgs_board.specs.Tree.{entries_of, branches_of, entry_of, each_from}
 
 -- the entries of a tree are the entry of its root, and then those of the tree of each child in order
 abbrev pub EntriesUnfold : {J E : Type 0} → (J → List ℕ → Option E × List J) → (J → List ℕ → ℕ) → Type 0
@@ -21,3 +21,8 @@ EntriesAscend {J} {E} node height = (root : J) (i j : ℕ) (x y : List ℕ × E)
 abbrev pub FinishedIsComplete : {J E : Type 0} → (J → List ℕ → Option E × List J) → Type 0
 FinishedIsComplete {J} node = (root : J) (workers : ℕ) (h : List Event) → IsLegal node root workers h → IsFinished h → (HasQuit h → ⊥)
     → IsComplete node root workers h
+
+-- a complete history has as many gives as the tree has branches
+abbrev pub CompleteGivesAll : {J E : Type 0} → (J → List ℕ → Option E × List J) → (J → List ℕ → ℕ) → Type 0
+CompleteGivesAll {J} node height = (root : J) (workers : ℕ) (h : List Event) → IsComplete node root workers h
+    → gives_of h ≡ length (branches_of node height root [])

@@ -19,7 +19,9 @@ mod walk;
 pub use board::{Board, Claimed, Given};
 pub use event::{Event, EventList};
 pub use job::{Job, Outcome};
-pub use laws::{entries_ascend, entries_unfold, finished_is_complete, two_workers};
+pub use laws::{
+    complete_gives_all, entries_ascend, entries_unfold, finished_is_complete, two_workers,
+};
 pub use piece::{Done, Piece, finish};
 pub use walk::entries_of;
 

@@ -4,7 +4,7 @@ use Rattle.cgs_board.specs.History.{IsFinished, HasQuit}
 use Rattle.cgs_board.specs.Slots.{is_closed, count_stages}
 use Rattle.cgs_board.proofs.HistoryLemmas.{finished_came_back}
 use Rattle.cgs_board.proofs.Answering.{finished_where, closed_where}
-use Rattle.cgs_board.proofs.Gathering.{finished_is_complete, gives_all}
+use Rattle.cgs_board.proofs.Gathering.{finished_is_complete, all_given, gives_all}
 use Rattle.cgs_board.proofs.board.Board.finished.Goals as goal
 
 pub returns-clause-value : goal.returns-clause-value
@@ -31,4 +31,5 @@ pub returns-clause-gives : goal.returns-clause-gives
 returns-clause-gives g c is =
     let f = c.self.invariant.follows in
     let done : IsFinished c.self.inside.history.items = subst (λ v. IsFinished v.history) (sym c.self.view_is) ((returns-clause-value g c).0 is) in
-    rw (← c.self.view_is) (gives_all g.J.Job.node g.J.Job.height g.met.J.Job.falls _ _ _ f.legal (finished_came_back _ done))
+    let given = all_given g.J.Job.node _ _ _ f.legal (finished_came_back _ done) in
+    rw (← c.self.view_is) (gives_all g.J.Job.node g.J.Job.height g.met.J.Job.falls _ _ _ f.legal given)

@@ -1,7 +1,7 @@
 //! The readers and writers of std: the trusted edge.
 
 ghost use Rattle.std.specs.Prelude.{◌≡◌, ◌≤◌, ◌<◌, ◌+◌, ◌-◌, ◌^◌, length, min, IfOk, OnErr};
-ghost use Rattle.std.specs.Io.KnownBytes.{ReadConsumes, WriteAppends};
+ghost use Rattle.std.specs.Io.KnownBytes.{Keeps, ReadConsumes, WriteAppends};
 ghost use Rattle.cgs_io.specs.Causes.{HasCause};
 
 use crate::sink::Sink;
@@ -44,7 +44,7 @@ impl<R: Read> Source for StdSource<R> {
     }
 }
 
-/// A writer of std. Each error is counted, and so is a write that takes nothing of a piece that is not empty.
+/// A writer of std. Each error is counted, that of a flush too, and so is a write that takes nothing of a piece that is not empty.
 #[derive(Drop)]
 pub struct StdSink<W> {
     writer: W,
@@ -60,7 +60,22 @@ impl<W: Write> StdSink<W> {
         StdSink { writer, faults: 0 }
     }
 
-    /// The writer, for its flush.
+    /// Flushes the writer. The bytes written stay as they were.
+    pub fn flush(&mut self) -> Result<(), Failed>
+        ensures bytes { Keeps (W.contents self.old.writer) (W.contents self.new.writer) }
+        ensures cause { HasCause self.old.faults self.new.faults result }
+        ensures counted { OnErr result (self.new.faults ≡ min (self.old.faults + 1) (2 ^ 64 - 1)) }
+    {
+        match self.writer.flush() {
+            Ok(()) => Ok(()),
+            Err(_) => {
+                self.faults = self.faults.saturating_add(1);
+                Err(Failed)
+            }
+        }
+    }
+
+    /// The writer.
     pub fn into_inner(self) -> W
         ensures writer { result ≡ self.writer }
         ensures written { W.contents result ≡ (⟦<StdSink<W> as Sink>⟧.seen self).bytes }

@@ -8,6 +8,14 @@ use std::test::Fail;
 fn shown(answer: &Result<Reading, ReadFault>) -> &[u8] {
     match answer {
         Ok(Reading::Whole(bytes)) => bytes,
+        _ => kind(answer),
+    }
+}
+
+/// The same, where it does not matter which bytes were read.
+fn kind(answer: &Result<Reading, ReadFault>) -> &'static [u8] {
+    match answer {
+        Ok(Reading::Whole(_)) => b"whole",
         Ok(Reading::TooLong) => b"too long",
         Err(ReadFault::Fault) => b"fault",
         Err(ReadFault::OutOfMemory) => b"out of memory",
@@ -37,6 +45,29 @@ fn reads_from_memory_and_from_a_reader(rt: HostRuntime) -> Result<(), Fail> {
     let mut reader = StdSource::new(text);
     let answer = read_all(alloc, &mut reader, 12);
     assert_eq!(rt; shown(&answer), text);
+    Ok(())
+}
+
+/// How much `read_all` reads at once: of 65536 bytes that would come, 4096, or as many as are left to the limit and one more. The reads are
+/// numbered from 0, and the listed one fails.
+#[test]
+fn asks_for_no_more_and_no_less(rt: HostRuntime) -> Result<(), Fail> {
+    let alloc = rt.alloc();
+    let rows = [
+        (4097, 65536, 1, b"fault".as_slice()),
+        (4097, 65536, 2, b"fault"),
+        (4097, 65536, 3, b"whole"),
+        (4096, 65536, 2, b"whole"),
+        (4097, 4096, 2, b"too long"),
+        (4096, 4095, 1, b"too long"),
+    ];
+    for (len, limit, fail, wanted) in rows {
+        let bytes = vec![in alloc; b'x'; len]?;
+        let fails = Vec::from_slice(alloc, &[fail])?;
+        let mut source = MemorySource::new(bytes, 65536, fails);
+        let answer = read_all(alloc, &mut source, limit);
+        assert_eq!(rt; kind(&answer), wanted, "{len} {limit} {fail}");
+    }
     Ok(())
 }
 

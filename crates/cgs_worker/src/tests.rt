@@ -13,11 +13,13 @@ use std::sync::Wait;
 use std::sync::atomic::{AtomicU64, Ordering};
 use std::thread::Threads;
 
-// A number. The node at the path of this code refuses memory.
+// A number, with the code of its path. Memory is refused to the node of the branch with one code, and to copies of the branch with another.
 #[derive(Drop)]
 struct Countdown {
     n: u32,
-    refused: u64,
+    code: u64,
+    no_node: u64,
+    no_copy: u64,
 }
 
 impl Model for Countdown {
@@ -35,8 +37,8 @@ impl Job for Countdown {
 
     ghost height = { level };
 
-    fn node(&self, alloc: Global, path: &Path) -> Result<Outcome<u32, Countdown>, AllocError> {
-        if code(path.as_slice()) == self.refused {
+    fn node(&self, alloc: Global, _path: &Path) -> Result<Outcome<u32, Countdown>, AllocError> {
+        if self.code == self.no_node {
             return Err(AllocError);
         }
         if self.n == 0 {
@@ -46,10 +48,12 @@ impl Job for Countdown {
             });
         }
         let mut children = Vec::new(alloc);
-        for _ in 0..self.n {
+        for number in 0..self.n {
             children.push(Countdown {
                 n: self.n - 1,
-                refused: self.refused,
+                code: code_below(self.code, u64::from(number)),
+                no_node: self.no_node,
+                no_copy: self.no_copy,
             })?;
         }
         Ok(Outcome {
@@ -59,9 +63,14 @@ impl Job for Countdown {
     }
 
     fn copy(&self, _alloc: Global) -> Result<Countdown, AllocError> {
+        if self.code == self.no_copy {
+            return Err(AllocError);
+        }
         Ok(Countdown {
             n: self.n,
-            refused: self.refused,
+            code: self.code,
+            no_node: self.no_node,
+            no_copy: self.no_copy,
         })
     }
 
@@ -72,23 +81,41 @@ impl Job for Countdown {
     ghost falls = { countdown_falls };
 }
 
-// The code of the root's path is 1, and that of the child i of c is 4 * c + i.
-fn code(path: &[usize]) -> u64 {
-    let mut code = 1u64;
+const ROOT: u64 = 1;
+
+// No path has this code.
+const NOWHERE: u64 = 0;
+
+// The codes of all paths of the tree of 3.
+const CODES: &[u64] = &[
+    ROOT, 4, 5, 6, 16, 17, 20, 21, 24, 25, 64, 68, 80, 84, 96, 100,
+];
+
+fn code_below(code: u64, number: u64) -> u64 {
+    code.saturating_mul(4).saturating_add(number)
+}
+
+fn code_of(path: &[usize]) -> u64 {
+    let mut code = ROOT;
     for number in path.iter() {
-        code = code.saturating_mul(4).saturating_add(*number as u64);
+        code = code_below(code, *number as u64);
     }
     code
 }
 
-// The tree of 3 has 16 branches and 6 entries. No path has the code 0.
-fn whole_tree() -> Countdown {
-    Countdown { n: 3, refused: 0 }
+// The tree of 3 has 16 branches and 6 entries.
+fn tree(no_node: u64, no_copy: u64) -> Countdown {
+    Countdown {
+        n: 3,
+        code: ROOT,
+        no_node,
+        no_copy,
+    }
 }
 
 #[test]
 fn one_worker_alone(rt: HostRuntime) {
-    let board = run_board_alone(rt.alloc(), whole_tree()).expect(&rt, "memory");
+    let board = run_board_alone(rt.alloc(), tree(NOWHERE, NOWHERE)).expect(&rt, "memory");
     assert_eq!(rt; board.workers(), 1);
     assert_eq!(rt; board.gives(), 16);
     let history = board.history().expect(&rt, "memory");
@@ -98,7 +125,9 @@ fn one_worker_alone(rt: HostRuntime) {
 // Fails unless as many workers finish the tree of 3.
 fn finish_tree<R: Threads + Wait + Abort + Sync>(rt: &R, alloc: Global, workers: u32) {
     assert!(rt; 0 < workers);
-    let board = run_board(rt, alloc, whole_tree(), workers, &OpenGate).expect(rt, "memory");
+    let board = run_board(rt, alloc, tree(NOWHERE, NOWHERE), workers, &OpenGate).expect(
+        rt, "memory",
+    );
     assert_eq!(rt; board.workers(), workers);
     assert_eq!(rt; board.gives(), 16);
     let entries = board.into_entries().expect(rt, "memory");
@@ -127,7 +156,7 @@ const ENTRY: u64 = 256;
 
 impl Gate for Meeting {
     fn enter(&self, worker: u32, path: &[usize]) {
-        if let Some(note) = self.notes.get(code(path) as usize) {
+        if let Some(note) = self.notes.get(code_of(path) as usize) {
             note.fetch_add(ENTRY + u64::from(worker), Ordering::SeqCst);
         }
         if path.len() == 1 && self.entered.fetch_add(1, Ordering::SeqCst) == 0 {
@@ -161,7 +190,7 @@ impl Meeting {
 
     // Whether the gate was entered just once with this path, by this worker.
     fn saw(&self, worker: u32, path: &[usize]) -> bool {
-        let Some(note) = self.notes.get(code(path) as usize) else {
+        let Some(note) = self.notes.get(code_of(path) as usize) else {
             return false;
         };
         note.load(Ordering::SeqCst) == ENTRY + u64::from(worker)
@@ -185,7 +214,10 @@ fn both_out(events: &[Event]) -> bool {
 fn two_workers_meet(rt: HostRuntime) {
     for _ in 0..20 {
         let gate = Meeting::new(rt.alloc()).expect(&rt, "memory");
-        let root = Countdown { n: 2, refused: 0 };
+        let root = Countdown {
+            n: 2,
+            ..tree(NOWHERE, NOWHERE)
+        };
         let board = run_board(&rt, rt.alloc(), root, 2, &gate).expect(&rt, "memory");
         assert_eq!(rt; gate.missed.load(Ordering::SeqCst), 0);
         let history = board.history().expect(&rt, "memory");
@@ -199,25 +231,25 @@ fn two_workers_meet(rt: HostRuntime) {
     }
 }
 
-// Fails unless there is no memory, with as many workers, where the node at a path refuses it.
-fn refuse<R: Threads + Wait + Abort + Sync>(rt: &R, alloc: Global, path: &[usize], workers: u32) {
-    assert!(rt; 0 < workers);
-    let root = Countdown {
-        n: 3,
-        refused: code(path),
-    };
-    assert!(rt; run_board(rt, alloc, root, workers, &OpenGate).is_err());
+// Fails unless there is no memory, with each number of workers up to 8.
+fn refuse<R: Threads + Wait + Abort + Sync>(rt: &R, alloc: Global, no_node: u64, no_copy: u64) {
+    for workers in 1..9 {
+        let answer = run_board(rt, alloc, tree(no_node, no_copy), workers, &OpenGate);
+        assert!(rt; answer.is_err(), "{no_node} {no_copy}, {workers} workers");
+    }
 }
 
 #[test]
 fn a_node_refuses_memory(rt: HostRuntime) {
-    let board = run_board_alone(rt.alloc(), whole_tree()).expect(&rt, "memory");
-    let history = board.history().expect(&rt, "memory");
-    for event in history.as_slice().iter() {
-        if let Event::Claim { path, .. } = event {
-            for workers in 1..9 {
-                refuse(&rt, rt.alloc(), path.as_slice(), workers);
-            }
-        }
+    for code in CODES {
+        refuse(&rt, rt.alloc(), *code, NOWHERE);
+    }
+}
+
+// The board copies the children of what is given back.
+#[test]
+fn a_give_refuses_memory(rt: HostRuntime) {
+    for code in CODES {
+        refuse(&rt, rt.alloc(), NOWHERE, *code);
     }
 }

@@ -2,6 +2,7 @@
 use Rattle.std.specs.Prelude.{◌≡◌, ◌⊎◌, ℕ}
 use Rattle.std.specs.declared.io.ErrorKind.{ErrorKind}
 use Rattle.std.specs.declared.io.ErrorKind.TheVariants.{OutOfMemory}
+use Rattle.cgs_io.specs.Causes.{Rose}
 use Rattle.cgs_program.specs.declared.status.Status.{Status}
 use Rattle.cgs_program.specs.declared.status.Status.TheVariants as status
 use Rattle.cgs_program.specs.Due.{code_of}
@@ -11,9 +12,10 @@ abbrev pub code_without_words : ErrorKind → ℕ
 code_without_words OutOfMemory = code_of status.Memory
 code_without_words kind = 8
 
--- A status with which a text was written stays, or the flush failed. The others stay.
-abbrev pub IsFlushed : Status → Status → Type 0
-IsFlushed status.Source now = now ≡ status.Source
-IsFlushed status.Sink now = now ≡ status.Sink
-IsFlushed status.Memory now = now ≡ status.Memory
-IsFlushed before now = (now ≡ before) ⊎ (now ≡ status.Sink)
+-- After a status with which a text was written the flush left the sink's count of faults and the status stays, or the count rose and the status is 6.
+-- The others stay, and nothing is flushed.
+abbrev pub IsFlushed : ℕ → ℕ → Status → Status → Type 0
+IsFlushed before now status.Source ending = (now ≡ before) × (ending ≡ status.Source)
+IsFlushed before now status.Sink ending = (now ≡ before) × (ending ≡ status.Sink)
+IsFlushed before now status.Memory ending = (now ≡ before) × (ending ≡ status.Memory)
+IsFlushed before now told ending = ((now ≡ before) × (ending ≡ told)) ⊎ (Rose before now × (ending ≡ status.Sink))

@@ -4,14 +4,14 @@
 //! written is flushed.
 #![tactic(auto)]
 
-ghost use Rattle.std.specs.Prelude.{◌≡◌, drop, map, string_bytes, IfOk};
+ghost use Rattle.std.specs.Prelude.{◌≡◌, drop, map, string_bytes, All, IfOk, IsUtf8};
 ghost use Rattle.std.specs.IoError.{error_kind};
 ghost use Rattle.cgs.specs.Ending.{code_without_words, IsFlushed};
 
 #[cfg(test)]
 mod tests;
 
-use cgs_io::{StdSink, StdSource, Word, WordList};
+use cgs_io::{Sink, StdSink, StdSource, Word, WordList};
 use cgs_program::{Status, run};
 use cgs_worker::OpenGate;
 use std::alloc::{AllocError, Global};
@@ -29,11 +29,13 @@ fn main(rt: HostRuntime) -> ExitCode {
     let mut source = StdSource::new(rt.stdin());
     let mut sink = StdSink::new(rt.stdout());
     let status = run(&rt, alloc, &words, &mut source, &mut sink, &OpenGate);
-    ExitCode::from(flushed(status, sink.into_inner()).code())
+    ExitCode::from(flushed(status, &mut sink).code())
 }
 
-/// The words that the program was given.
-fn words_of(rt: &(impl Env + AllocGlobal), alloc: Global) -> io::Result<WordList> {
+/// The words that the program was given, each a text. What the environment gives no contract can name, so no clause says which they are.
+fn words_of(rt: &(impl Env + AllocGlobal), alloc: Global) -> io::Result<WordList>
+    ensures { IfOk result (λ words. All IsUtf8 words) }
+{
     let arguments: Vec<String> = env::args(rt)?.collect(alloc)?;
     Ok(words_after_name(alloc, &arguments)?)
 }
@@ -70,12 +72,12 @@ fn code_without_words(e: &io::Error) -> u8
 }
 
 /// The status after a flush of what was written.
-fn flushed<W: Write + Drop>(status: Status, mut writer: W) -> Status
-    ensures { IsFlushed status result }
+fn flushed<W: Write>(status: Status, sink: &mut StdSink<W>) -> Status
+    ensures { let seen = ⟦<StdSink<W> as Sink>⟧.seen in IsFlushed (seen sink.old).faults (seen sink.new).faults status result }
 {
     match status {
         Status::Source | Status::Sink | Status::Memory => status,
-        Status::Done | Status::Words | Status::Partial | Status::Text => match writer.flush() {
+        Status::Done | Status::Words | Status::Partial | Status::Text => match sink.flush() {
             Ok(()) => status,
             Err(_) => Status::Sink,
         },

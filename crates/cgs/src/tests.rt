@@ -1,4 +1,5 @@
 use crate::flushed;
+use cgs_io::StdSink;
 use cgs_program::Status;
 use std::io::{self, Write};
 
@@ -29,7 +30,7 @@ fn tells_a_failed_flush(rt: HostRuntime) {
         (Status::Memory, Status::Memory),
     ];
     for (status, wanted) in rows {
-        assert_eq!(rt; flushed(status, Unflushed), wanted);
-        assert_eq!(rt; flushed(status, Vec::new(alloc)), status);
+        assert_eq!(rt; flushed(status, &mut StdSink::new(Unflushed)), wanted);
+        assert_eq!(rt; flushed(status, &mut StdSink::new(Vec::new(alloc))), status);
     }
 }

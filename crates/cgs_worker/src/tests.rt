@@ -91,6 +91,7 @@ const CODES: &[u64] = &[
     ROOT, 4, 5, 6, 16, 17, 20, 21, 24, 25, 64, 68, 80, 84, 96, 100,
 ];
 
+// The code of a child is four times that of its parent, plus its own number.
 fn code_below(code: u64, number: u64) -> u64 {
     code.saturating_mul(4).saturating_add(number)
 }
@@ -125,9 +126,8 @@ fn one_worker_alone(rt: HostRuntime) {
 // Fails unless as many workers finish the tree of 3.
 fn finish_tree<R: Threads + Wait + Abort + Sync>(rt: &R, alloc: Global, workers: u32) {
     assert!(rt; 0 < workers);
-    let board = run_board(rt, alloc, tree(NOWHERE, NOWHERE), workers, &OpenGate).expect(
-        rt, "memory",
-    );
+    let root = tree(NOWHERE, NOWHERE);
+    let board = run_board(rt, alloc, root, workers, &OpenGate).expect(rt, "memory");
     assert_eq!(rt; board.workers(), workers);
     assert_eq!(rt; board.gives(), 16);
     let entries = board.into_entries().expect(rt, "memory");

@@ -76,7 +76,7 @@ new_beside front before (w ∷ names) new apart =
     let free : list_any (bytes_eq w) (front ++ before) ≡ false = rw (list_any-append (bytes_eq w) front before, none_same w front split.0) new.0 in
     (free, subst (λ l. AreNew l names) (sym (append_assoc front before (w ∷ []))) (new_beside front (before ++ w ∷ []) names new.1 split.1))
 
-reader_is : (d : PartialProblem) (barred most : ℕ) → HasHeader d → barred ≤ length d.variables → most ≤ greatest_degree → IsReader (reader_of d barred most)
+pub reader_is : (d : PartialProblem) (barred most : ℕ) → HasHeader d → barred ≤ length d.variables → most ≤ greatest_degree → IsReader (reader_of d barred most)
 reader_is d barred most h le low =
     let heads : take (length d.variables) (names_of d) ≡ d.variables = take-append_seam d.variables d.parameters in
     let tails : drop (length d.variables) (names_of d) ≡ d.parameters = drop-append_seam d.variables d.parameters in
@@ -90,10 +90,10 @@ reader_is d barred most h le low =
       low = low;
     }
 
-all_named : (d : PartialProblem) → HasHeader d → AllByRecursion IsName (names_of d)
+pub all_named : (d : PartialProblem) → HasHeader d → AllByRecursion IsName (names_of d)
 all_named d h = all_append IsName d.variables d.parameters h.variable_names.named h.parameter_names.named
 
-short : (reader : Reader) (f : List Term) → reader.ring.modulus < 65536 → reader.most ≤ greatest_degree → IsCanonical reader.ring f
+pub short : (reader : Reader) (f : List Term) → reader.ring.modulus < 65536 → reader.most ≤ greatest_degree → IsCanonical reader.ring f
     → AllByRecursion (λ (t : Term). IsAllowed reader t.exponents) f → IsShort f
 short reader [] small low c m = tt
 short reader (t ∷ f) small low c m = ((omega (arith, c.1), omega (arith, m.0.low)), short reader f small low c.4 m.1)

@@ -32,7 +32,7 @@ pub passes_append : (p : ℕ → Bool) (a b : List ℕ) → Passes p a → Passe
 passes_append p [] b h k = k
 passes_append p (x ∷ a) b h k = (h.0, passes_append p a b h.1 k)
 
-passes_all : (p q : ℕ → Bool) → ((b : ℕ) → p b ≡ true → q b ≡ true) → (bytes : List ℕ) → Passes p bytes → Passes q bytes
+pub passes_all : (p q : ℕ → Bool) → ((b : ℕ) → p b ≡ true → q b ≡ true) → (bytes : List ℕ) → Passes p bytes → Passes q bytes
 passes_all p q f [] h = tt
 passes_all p q f (b ∷ bytes) h = (f b h.0, passes_all p q f bytes h.1)
 
@@ -178,13 +178,13 @@ space_says text ls s = record {
 
 -- numbers
 
-digit_is : (c : ℕ) → digit_value c < 10 → is_ascii_digit c ≡ true
+pub digit_is : (c : ℕ) → digit_value c < 10 → is_ascii_digit c ≡ true
 digit_is c h = grind (arith, nat_tests)
 
 digit_no_letter : (c : ℕ) → is_ascii_digit c ≡ true → is_ascii_alphabetic c ≡ false
 digit_no_letter c h = grind (arith, nat_tests)
 
-digit_plain : (c : ℕ) → is_ascii_digit c ≡ true → is_plain c ≡ true
+pub digit_plain : (c : ℕ) → is_ascii_digit c ≡ true → is_plain c ≡ true
 digit_plain c h = grind (arith, nat_tests)
 
 digit_no_blank : (c : ℕ) → is_ascii_digit c ≡ true → is_blank c ≡ false

@@ -17,3 +17,7 @@ pub mod ReadableLemmas
 pub mod SpelledLemmas
 pub mod RoundTripLemmas
 pub mod ValidLemmas
+pub mod ToldPathLemmas
+pub mod ToldLineLemmas
+pub mod ToldListLemmas
+pub mod ToldPlaceLemmas

@@ -18,7 +18,7 @@ no_line_feed b h = grind (arith, nat_tests)
 no_return : (b : ℕ) → is_plain b ≡ true → (b == 13) ≡ false
 no_return b h = grind (arith, nat_tests)
 
-first_line : (line rest : List ℕ) → Passes is_plain line → lines_of (line ++ 10 ∷ rest) ≡ line ∷ lines_of rest
+pub first_line : (line rest : List ℕ) → Passes is_plain line → lines_of (line ++ 10 ∷ rest) ≡ line ∷ lines_of rest
 first_line [] rest h = refl
 first_line (b ∷ line) rest h = rw (no_line_feed b h.0) (ap (on_first b) (first_line line rest h.1))
 
@@ -86,13 +86,13 @@ both : (a b : Bool) → (a && b) ≡ true → (a ≡ true) × (b ≡ true)
 both true b e = (refl, e)
 both false b e = absurd (cc)
 
-word_passes : (word : List ℕ) → list_all is_word word ≡ true → Passes is_word word
-word_passes [] h = tt
-word_passes (b ∷ word) h = let two = both (is_word b) (list_all is_word word) h in (two.0, word_passes word two.1)
+pub passing : (p : ℕ → Bool) (text : List ℕ) → list_all p text ≡ true → Passes p text
+passing p [] h = tt
+passing p (b ∷ text) h = let two = both (p b) (list_all p text) h in (two.0, passing p text two.1)
 
 pub keyword : (word : List ℕ) → is_name word ≡ true → IsName word
 keyword word e =
     let one = both (is_ascii_alphabetic (get_or word 0 0)) (list_all is_word word && (ltb 0 (length word) && leb (length word) 32)) e in
     let two = both (list_all is_word word) (ltb 0 (length word) && leb (length word) 32) one.1 in
     let three = both (ltb 0 (length word)) (leb (length word) 32) two.1 in
-    record { letter = one.0; word = word_passes word two.0; some = ltb-true _ _ three.0; short = leb-true _ _ three.1 }
+    record { letter = one.0; word = passing is_word word two.0; some = ltb-true _ _ three.0; short = leb-true _ _ three.1 }

@@ -4,3 +4,4 @@ pub mod RoundTrip
 pub mod Locating
 pub mod Discovery
 pub mod Summary
+pub mod Telling

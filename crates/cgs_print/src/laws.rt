@@ -1,6 +1,7 @@
 //! What holds of printing and reading together, for the proofs of the crates above. The function does nothing.
 
 ghost use Rattle.cgs_print.specs.RoundTrip.{ReadsBack, SpellsValid};
+ghost use Rattle.cgs_print.specs.Telling.{ListsAreTold, BasesAreTold, PlacesAreTold};
 
 /// The text printed for a problem spells that problem again, for each problem that some text spells: so printing is
 /// a canonical form of problem files.
@@ -11,4 +12,21 @@ pub fn printed_problems_read_back()
 /// A text spells valid problems alone.
 pub fn spelled_problems_are_valid()
     ensures { SpellsValid }
+{}
+
+/// Two lists of entries of a problem that have one text are equal. So a printed list tells the path of each entry, its
+/// conditions, its basis and whether the conditions were tested to the end, or why there is no basis.
+pub fn printed_lists_tell_entries()
+    ensures { ListsAreTold }
+{}
+
+/// Two bases of a problem that have one text are equal.
+pub fn printed_bases_tell_members()
+    ensures { BasesAreTold }
+{}
+
+/// Where two lists of entries have one text of located points, each point of the problem lies alike in both: in an entry
+/// with the same path, and with the same basis there or refused for the same cause, or in no entry.
+pub fn located_points_tell_places()
+    ensures { PlacesAreTold }
 {}

@@ -25,7 +25,10 @@ pub use basis::{basis_text, refusal_text};
 pub use discovery::discovered_text;
 pub use fault::fault_text;
 pub use history::history_text;
-pub use laws::{printed_problems_read_back, spelled_problems_are_valid};
+pub use laws::{
+    located_points_tell_places, printed_bases_tell_members, printed_lists_tell_entries,
+    printed_problems_read_back, spelled_problems_are_valid,
+};
 pub use list::{list_text, path_text};
 pub use locating::located_text;
 pub use polynomial::poly_text;

@@ -7,6 +7,7 @@ use Rattle.std.proofs.Math.Nat.{mod-eq_of_lt}
 use Rattle.std.proofs.lemmas.List.{length-append}
 use Rattle.std.proofs.lemmas.List.Folds.{list_any-append}
 use Rattle.std.proofs.lemmas.Slice.Eq.{bytes_eq-Decides}
+use Rattle.cgs_list.proofs.ListLemmas.{all_append}
 use Rattle.cgs_tokens.specs.Tokens.{is_word}
 use Rattle.cgs_field.proofs.PrimeLemmas.{modulus_small, modulus_prime}
 use Rattle.cgs_poly.specs.Polynomial.{Term, IsCanonical, greatest_degree}
@@ -22,7 +23,7 @@ use Rattle.cgs_problem.specs.Reading.{read_from, problem_of}
 use Rattle.cgs_problem.specs.Problems.{greatest_thesis_degree}
 use Rattle.cgs_print.specs.Printing.{polynomial_text, polynomial_line, polynomial_lines, thesis_line, point_line, body_text}
 use Rattle.cgs_print.proofs.LexemeLemmas.{Says, Stops, IsName, says_nothing, says_append, space_says, decimal_says}
-use Rattle.cgs_print.proofs.MonomialLemmas.{all_append, AreNew, IsReader, IsAllowed}
+use Rattle.cgs_print.proofs.MonomialLemmas.{AreNew, IsReader, IsAllowed}
 use Rattle.cgs_print.proofs.PolynomialLemmas.{sum_said, polynomial_says, polynomial_reads, IsReadable, IsShort}
 use Rattle.cgs_print.proofs.LineLemmas.{GoesOn, keyword_reads, keyword}
 use Rattle.cgs_print.proofs.HeaderLemmas.{HasHeader, having, regroup}

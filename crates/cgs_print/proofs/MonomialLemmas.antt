@@ -8,6 +8,7 @@ use Rattle.std.proofs.lemmas.List.Sums.{sum_by-append, sum_by-take-drop}
 use Rattle.std.proofs.lemmas.List.Folds.{sum_by-replicate}
 use Rattle.std.proofs.lemmas.Bool.{le-ltb, lt-ltb, eqb-true}
 use Rattle.std.proofs.lemmas.Slice.Eq.{bytes_eq-Decides}
+use Rattle.cgs_list.proofs.ListLemmas.{all_take, all_drop}
 use Rattle.cgs_exps.specs.Monomial.{degree}
 use Rattle.cgs_poly.specs.Ring.{Ring}
 use Rattle.cgs_poly.specs.Polynomial.{term, places, greatest_degree}
@@ -100,20 +101,6 @@ powers_read reader c front (word ∷ names) back a (x ∷ es) b rest np e new la
 abbrev pub monomial_said : Ring → List (List ℕ) → List ℕ → List (List Lexeme)
 monomial_said ring names exponents =
     powers_said (drop ring.variables names) (drop ring.variables exponents) ++ powers_said (take ring.variables names) (take ring.variables exponents)
-
-pub all_append : {X : Type 0} (P : X → Type 0) (xs ys : List X) → AllByRecursion P xs → AllByRecursion P ys → AllByRecursion P (xs ++ ys)
-all_append P [] ys h k = k
-all_append P (x ∷ xs) ys h k = (h.0, all_append P xs ys h.1 k)
-
-all_take : {X : Type 0} (P : X → Type 0) (n : ℕ) (xs : List X) → AllByRecursion P xs → AllByRecursion P (take n xs)
-all_take P zero xs h = tt
-all_take P (suc n) [] h = tt
-all_take P (suc n) (x ∷ xs) h = (h.0, all_take P n xs h.1)
-
-all_drop : {X : Type 0} (P : X → Type 0) (n : ℕ) (xs : List X) → AllByRecursion P xs → AllByRecursion P (drop n xs)
-all_drop P zero xs h = h
-all_drop P (suc n) [] h = tt
-all_drop P (suc n) (x ∷ xs) h = all_drop P n xs h.1
 
 pub monomial_says : (ring : Ring) (names : List (List ℕ)) (exponents : List ℕ) → AllByRecursion IsName names → degree exponents ≤ greatest_degree
     → EachSays (monomial_text ring names exponents) (monomial_said ring names exponents)

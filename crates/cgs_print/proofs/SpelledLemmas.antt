@@ -4,6 +4,7 @@ use Rattle.std.proofs.Common.{◌++◌, length, codes, Result, Ok, Err, Option, 
 use Rattle.std.specs.List.{AllByRecursion, list_any}
 use Rattle.std.proofs.Math.Nat.{mod-lt}
 use Rattle.std.proofs.lemmas.List.{length-append}
+use Rattle.cgs_list.proofs.ListLemmas.{all_append}
 use Rattle.cgs_field.specs.Prime.{moduli, IsModulus}
 use Rattle.cgs_poly.specs.Polynomial.{Term, greatest_degree}
 use Rattle.cgs_list.specs.Results.{and_then}
@@ -21,7 +22,7 @@ use Rattle.cgs_problem.specs.Drafts.{body_said, line_said}
 use Rattle.cgs_problem.specs.Reading.{line_read, taken, problem_of, ended_at, at_line, read_from, problem_spelled}
 use Rattle.cgs_problem.specs.Problems.{greatest_thesis_degree}
 use Rattle.cgs_print.proofs.LexemeLemmas.{IsName}
-use Rattle.cgs_print.proofs.MonomialLemmas.{all_append, AreNew}
+use Rattle.cgs_print.proofs.MonomialLemmas.{AreNew}
 use Rattle.cgs_print.proofs.PolynomialLemmas.{IsReadable}
 use Rattle.cgs_print.proofs.HeaderLemmas.{AreNames, HasHeader}
 use Rattle.cgs_print.proofs.BodyLemmas.{reader_of, IsBody, positive}

@@ -4,6 +4,7 @@ use Rattle.std.proofs.Common.{ap, ◌∙◌, arith, if◌then◌else◌, ◌==�
 use Rattle.std.specs.List.{AllByRecursion, join_by}
 use Rattle.std.proofs.Math.Nat.{mod-eq_of_lt, one-mul}
 use Rattle.std.proofs.lemmas.Bool.{eqb-true}
+use Rattle.cgs_list.proofs.ListLemmas.{all_append}
 use Rattle.cgs_exps.specs.Monomial.{degree}
 use Rattle.cgs_poly.specs.Ring.{Ring}
 use Rattle.cgs_poly.specs.Polynomial.{Term, term, places, greatest_degree}
@@ -12,7 +13,7 @@ use Rattle.cgs_problem.specs.Sums.{Reader, product, follow, one}
 use Rattle.cgs_print.specs.Printing.{factors_text, term_text, monomial_text}
 use Rattle.cgs_print.proofs.LexemeLemmas.{Says, IsName, says_nothing, says_append, decimal_says}
 use Rattle.cgs_print.proofs.FactorLemmas.{EachSays, after, times_joined, times_stops, power_said, powers_said, NoPower}
-use Rattle.cgs_print.proofs.MonomialLemmas.{all_append, monomial_said, monomial_says, monomial_reads, IsReader, IsAllowed}
+use Rattle.cgs_print.proofs.MonomialLemmas.{monomial_said, monomial_says, monomial_reads, IsReader, IsAllowed}
 
 -- what the factors of a term say
 abbrev pub factors_said : ℕ → List (List Lexeme) → List Lexeme

@@ -1,8 +1,7 @@
 -- A printed list is read again, line by line from its end.
-use Rattle.std.proofs.Common.{◌≡◌, ℕ, ◌<◌, ◌≤◌, Bool, true, false, cond, List, [], ◌∷◌, ◌++◌, drop, length, codes, Result, Ok, Err, Option, Some, None, refl, ap, ◌∙◌}
+use Rattle.std.proofs.Common.{◌≡◌, ℕ, Bool, true, false, cond, List, [], ◌∷◌, ◌++◌, drop, codes, Result, Ok, Err, Option, Some, None, refl, ap, ◌∙◌}
 use Rattle.std.proofs.Common.{inl, arith, append_assoc}
-use Rattle.std.specs.List.{AllByRecursion, list_all}
-use Rattle.cgs_exps.specs.Monomial.{degree}
+use Rattle.std.specs.List.{AllByRecursion}
 use Rattle.cgs_field.specs.Prime.{IsModulus}
 use Rattle.cgs_field.proofs.PrimeLemmas.{modulus_small}
 use Rattle.cgs_poly.specs.Ring.{Ring}

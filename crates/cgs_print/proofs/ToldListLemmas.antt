@@ -1,6 +1,6 @@
 -- A printed list of entries is read again, and so is a basis.
-use Rattle.std.proofs.Common.{◌≡◌, ℕ, ◌-◌, ◌<◌, ◌^◌, Bool, true, false, List, [], ◌∷◌, ◌++◌, drop, length, codes, decimal, flat_map, Ok, refl, sym, ap, ◌∙◌, subst, arith}
-use Rattle.std.proofs.Common.{append_assoc, append-nil}
+use Rattle.std.proofs.Common.{◌≡◌, ℕ, ◌-◌, ◌<◌, ◌^◌, Bool, true, false, List, [], ◌∷◌, ◌++◌, length, codes, decimal, flat_map}
+use Rattle.std.proofs.Common.{Ok, refl, sym, ap, ◌∙◌, subst, arith, append_assoc, append-nil}
 use Rattle.std.specs.List.{AllByRecursion, count_by}
 use Rattle.cgs_poly.specs.Ring.{Ring}
 use Rattle.cgs_poly.specs.Polynomial.{Term, ArePolys, greatest_degree}
@@ -18,16 +18,17 @@ use Rattle.cgs_report.specs.declared.standard.Standard.TheVariants.{NotFinite, M
 use Rattle.cgs_report.specs.Report.{findings_of}
 use Rattle.cgs_problem.specs.declared.problem.Problem.{Problem}
 use Rattle.cgs_problem.specs.Reading.{problem_spelled}
-use Rattle.cgs_print.specs.Printing.{polynomial_lines, cause_word, path_text, head_line, conditions_text, untested_line, answer_line, standard_line, findings_text}
-use Rattle.cgs_print.specs.Printing.{solved_text, found_text, entry_text, count_line, list_text, members_line, basis_text}
-use Rattle.cgs_print.specs.Telling.{IsPrintable, ArePrintable, ListsAreTold, BasesAreTold, Place}
+use Rattle.cgs_print.specs.Printing.{polynomial_lines, cause_word, path_text, head_line, conditions_text, untested_line, answer_line, standard_line}
+use Rattle.cgs_print.specs.Printing.{findings_text, found_text, entry_text, count_line, list_text, members_line, basis_text}
+use Rattle.cgs_print.specs.Telling.{IsPrintable, ArePrintable, ListsAreTold, BasesAreTold}
 use Rattle.cgs_print.proofs.ConditionLemmas.{conditions_polys}
 use Rattle.cgs_print.proofs.LexemeLemmas.{Passes, passes_append, is_plain}
 use Rattle.cgs_print.proofs.LineLemmas.{passing}
 use Rattle.cgs_print.proofs.BodyLemmas.{reader_is, all_named}
 use Rattle.cgs_print.proofs.SpelledLemmas.{spelled_valid}
 use Rattle.cgs_print.proofs.ToldPathLemmas.{path_told, cause_told, path_plain, path_reads, cause_reads, decimal_plain}
-use Rattle.cgs_print.proofs.ToldLineLemmas.{IsNamed, Told, fresh, headed, line_told, text_told, nothing_told, line_reads, zero_tells, nonzero_tells, basis_tells}
+use Rattle.cgs_print.proofs.ToldLineLemmas.{IsNamed, Told, fresh, headed, line_told, text_told, nothing_told, line_reads, zero_tells}
+use Rattle.cgs_print.proofs.ToldLineLemmas.{nonzero_tells, basis_tells}
 
 -- the first line of an entry
 

@@ -1,16 +1,14 @@
 -- A printed text of where points lie is read again.
-use Rattle.std.proofs.Common.{◌≡◌, ℕ, ◌+◌, ◌<◌, ◌≤◌, ◌^◌, List, [], ◌∷◌, ◌++◌, take, drop, length, map, codes, decimal, flat_map, Ok, Option, Some, None, refl, sym}
+use Rattle.std.proofs.Common.{◌≡◌, ℕ, List, [], ◌∷◌, ◌++◌, take, drop, length, map, codes, decimal, flat_map, Option, Some, None, refl, sym}
 use Rattle.std.proofs.Common.{ap, ◌∙◌, subst, arith, append_assoc, append-nil}
-use Rattle.std.specs.Prelude.{slice_get}
-use Rattle.std.specs.List.{AllByRecursion}
 use Rattle.std.proofs.lemmas.List.{length-take, take-take, take_all, drop_all}
 use Rattle.cgs_list.proofs.ListLemmas.{all_at, all_take}
 use Rattle.cgs_poly.specs.Ring.{Ring}
-use Rattle.cgs_poly.specs.Polynomial.{Term, IsRing, IsPoly, ArePolys, greatest_degree}
+use Rattle.cgs_poly.specs.Polynomial.{Term, IsRing, IsPoly, ArePolys}
 use Rattle.cgs_poly.specs.Parameters.{variables_ring, specialised}
 use Rattle.cgs_poly.proofs.MonicLemmas.{monic_poly}
-use Rattle.cgs_point.specs.Points.{IsPoint}
 use Rattle.cgs_point.proofs.SpecialiseLemmas.{part_poly}
+use Rattle.cgs_entry.specs.declared.conditions.Conditions.{Conditions}
 use Rattle.cgs_entry.specs.declared.entry.Entry.{Entry}
 use Rattle.cgs_entry.specs.declared.entry.EntryKind.{EntryKind}
 use Rattle.cgs_entry.specs.declared.entry.EntryKind.TheVariants.{Solved, Refused}
@@ -96,28 +94,30 @@ module _ (problem : Problem) (valid : IsProblem problem) (n : IsNamed problem.ri
   abbrev told_by : List ℕ → Told
   told_by text = text_told (variables_ring problem.ring) (take problem.ring.variables problem.names) text
 
-  headed_is : (ring : Ring) (point path : List ℕ) (kind : EntryKind) (places : List (Option Place)) (entry : Entry) → entry.path ≡ path → entry.kind ≡ kind
+  placed_is : (ring : Ring) (point path : List ℕ) (conditions : Conditions) (kind : EntryKind) (places : List (Option Place))
       → placed (let told = record (fresh [] places) { basis = basis_at ring point (basis_of kind) } in headed told path (kind_told kind told))
-      ≡ fresh [] (place_in ring point (Some entry) ∷ places)
-  headed_is ring point path (Solved basis tested) places entry p k = rw (p, k) refl
-  headed_is ring point path (Refused cause) places entry p k = rw (p, k) refl
+      ≡ fresh [] (place_in ring point (Some (record { path = path; conditions = conditions; kind = kind })) ∷ places)
+  placed_is ring point path conditions (Solved basis tested) places = refl
+  placed_is ring point path conditions (Refused cause) places = refl
 
-  entry_tells : (entry : Entry) (point rest : List ℕ) (places : List (Option Place)) → IsPrintable problem.ring entry → told_by rest ≡ fresh [] places
+  found_entry_tells : (entry : Entry) (point rest : List ℕ) (places : List (Option Place)) → IsPrintable problem.ring entry → told_by rest ≡ fresh [] places
       → placed (told_by (head_line entry ++ special_lines problem (basis_at problem.ring point (basis_of entry.kind)) ++ rest))
       ≡ fresh [] (place_in problem.ring point (Some entry) ∷ places)
-  entry_tells entry point rest places h e =
+  found_entry_tells entry point rest places h e =
       let few : Ring = variables_ring problem.ring in
       let names : List (List ℕ) = take problem.ring.variables problem.names in
       let basis : List (List Term) = basis_at problem.ring point (basis_of entry.kind) in
       let lines : List ℕ = special_lines problem basis in
-      let polys : ArePolys few basis = basis_at_polys problem.ring point (basis_of entry.kind) valid.ring (found_polys problem.ring entry.kind h.of_ring.found) in
+      let polys : ArePolys few basis =
+      basis_at_polys problem.ring point (basis_of entry.kind) valid.ring (found_polys problem.ring entry.kind h.of_ring.found) in
       let told : told_by (lines ++ rest) ≡ record (fresh [] places) { basis = basis } =
-      basis_tells few names basis rest (variables_named problem.ring problem.names n) polys ∙ ap (λ (told : Told). record told { basis = basis ++ told.basis }) e
+      basis_tells few names basis rest (variables_named problem.ring problem.names n) polys
+      ∙ ap (λ (told : Told). record told { basis = basis ++ told.basis }) e
       ∙ ap (λ all. record (fresh [] places) { basis = all }) (append-nil basis) in
       ap (λ text. placed (told_by text)) (append_assoc (head_line entry) lines rest)
       ∙ ap placed (head_tells few names entry.path entry.conditions entry.kind (lines ++ rest) h.path)
       ∙ ap (λ (told : Told). placed (headed told entry.path (kind_told entry.kind told))) told
-      ∙ headed_is problem.ring point entry.path entry.kind places entry refl refl
+      ∙ placed_is problem.ring point entry.path entry.conditions entry.kind places
 
   found_tells : (entries : List Entry) (point rest : List ℕ) (places : List (Option Place)) (found : Located) → ArePrintable problem.ring entries
       → located problem.ring point entries ≡ Some found → told_by rest ≡ fresh [] places
@@ -128,7 +128,7 @@ module _ (problem : Problem) (valid : IsProblem problem) (n : IsNamed problem.ri
       let printable : IsPrintable problem.ring entry = all_at (IsPrintable problem.ring) entries found.index entry h first.lies.at in
       ap (λ at. placed (told_by (head_if_any at ++ special_lines problem found.basis ++ rest))) first.lies.at
       ∙ ap (λ basis. placed (told_by (head_line entry ++ special_lines problem basis ++ rest))) first.basis
-      ∙ entry_tells entry point rest places printable told
+      ∙ found_entry_tells entry point rest places printable told
       ∙ ap (λ at. fresh [] (place_in problem.ring point at ∷ places)) (sym first.lies.at)
 
   place_tells : (entries : List Entry) (point rest : List ℕ) (places : List (Option Place)) (found : Option Located) → ArePrintable problem.ring entries

@@ -4,6 +4,7 @@ use Rattle.std.proofs.lemmas.List.{append-nil, length-append}
 use Rattle.std.proofs.lemmas.Cmp.{nat_list_eq_equiv}
 use Rattle.std.proofs.lemmas.Map.Keys.{IsDistinct-push}
 use Rattle.std.specs.List.{AllByRecursion, IsDistinct}
+use Rattle.cgs_list.proofs.ListLemmas.{all_append}
 use Rattle.cgs_exps.specs.Monomial.{degree}
 use Rattle.cgs_poly.specs.Polynomial.{Term, IsPoly, HasLowDegrees, ArePolys, greatest_degree}
 use Rattle.cgs_poly.specs.Parameters.{HasNoVariables, IsCondition}
@@ -13,7 +14,7 @@ use Rattle.cgs_problem.specs.Problems.{IsProblem, IsThesis, greatest_thesis_degr
 use Rattle.cgs_problem.specs.Reading.{problem_of, problem_spelled}
 use Rattle.cgs_problem.specs.Sums.{Reader}
 use Rattle.cgs_print.proofs.LexemeLemmas.{IsName}
-use Rattle.cgs_print.proofs.MonomialLemmas.{all_append, AreNew, IsAllowed}
+use Rattle.cgs_print.proofs.MonomialLemmas.{AreNew, IsAllowed}
 use Rattle.cgs_print.proofs.PolynomialLemmas.{IsReadable}
 use Rattle.cgs_print.proofs.HeaderLemmas.{HasHeader}
 use Rattle.cgs_print.proofs.BodyLemmas.{reader_of, IsBody, new_beside}

@@ -1,5 +1,5 @@
 -- What the printed lists, bases and places tell, as facts: no two of them have one text.
-use Rattle.std.specs.Prelude.{ℕ, ◌≡◌, ◌<◌, ◌^◌, Option, Some, None, Ok, List, [], ◌∷◌, map, slice_get}
+use Rattle.std.specs.Prelude.{ℕ, ◌≡◌, ◌<◌, ◌^◌, Option, Some, None, Ok, List, map, slice_get}
 use Rattle.std.specs.List.{AllByRecursion}
 use Rattle.cgs_poly.specs.Ring.{Ring}
 use Rattle.cgs_poly.specs.Polynomial.{Term, ArePolys}

@@ -113,3 +113,6 @@ pub last_part : {E : Type 0} (r : Result (Unit {0}) E) (old mid new first second
     → Prints r old new (first ++ second)
 last_part (Ok done) old mid new first second e p = both_parts old mid new first second e p
 last_part (Err failed) old mid new first second e p = front_second old mid new first second e p
+
+-- how two parts that were printed make a text
+pub ruleset parts = (front_first, last_part, at_exit)

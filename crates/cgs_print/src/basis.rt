@@ -15,6 +15,7 @@ use std::alloc::AllocError;
 
 /// Appends the lines of a basis in the ring of the problem, and the number of its members. For want of memory a front of
 /// the text is appended.
+#[tactic(auto, using(crate::proofs::PrintLemmas::parts))]
 pub fn basis_text(problem: &Problem, basis: &PolyList, out: &mut Text) -> Result<(), AllocError>
     requires problem { IsProblem problem.now }
     requires basis { ArePolys problem.now.ring basis.now }

@@ -31,6 +31,7 @@ pub fn discovered_text(
 }
 
 /// A list under a line of its own.
+#[tactic(auto, using(crate::proofs::PrintLemmas::parts))]
 fn headed_text(
     head: &[u8],
     problem: &Problem,

@@ -122,6 +122,7 @@ fn number_text(separator: &[u8], number: usize, out: &mut Text) -> Result<(), Al
 }
 
 /// The lines of conditions.
+#[tactic(auto, using(crate::proofs::ConditionLemmas::conditions_polys, crate::proofs::PrintLemmas::parts))]
 fn conditions_text(
     ring: &Ring,
     names: &[Text],
@@ -155,6 +156,7 @@ fn found_text(ring: &Ring, names: &[Text], entry: &Entry, out: &mut Text) -> Res
 }
 
 /// The lines of a basis under conditions that were tested to the end or not.
+#[tactic(auto, using(crate::proofs::PrintLemmas::parts))]
 fn solved_text(
     ring: &Ring,
     names: &[Text],

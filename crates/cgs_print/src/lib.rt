@@ -1,10 +1,11 @@
 //! Polynomials, problems, lists and what is told of them, histories and faults printed.
 //!
-//! It promises that the canonical text is appended, or for want of memory a front of it, and that the text of a problem
-//! that some bytes spell spells it again. Below it stand problems and their reading as a definition (`cgs_problem`), the
-//! search for a point (`cgs_locate`) and the events of a board (`cgs_board`). Read first: `polynomial_text` and
-//! `problem_text` (specs/Printing), `located_text` (specs/Locating), `discovered_text` (specs/Discovery), `summary_text` (specs/Summary), `history_text`
-//! (specs/History), `ReadsBack` (specs/RoundTrip).
+//! It promises that the canonical text is appended, or for want of memory a front of it, that the text of a problem
+//! that some bytes spell spells it again, and that two lists of its entries with one text are equal. Below it stand
+//! problems and their reading as a definition (`cgs_problem`), the search for a point (`cgs_locate`) and the events of a
+//! board (`cgs_board`). Read first: `polynomial_text` and `problem_text` (specs/Printing), `located_text`
+//! (specs/Locating), `discovered_text` (specs/Discovery), `summary_text` (specs/Summary), `history_text` (specs/History),
+//! `ReadsBack` (specs/RoundTrip), `ListsAreTold` (specs/Telling).
 #![tactic(auto)]
 
 mod basis;

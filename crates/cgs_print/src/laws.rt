@@ -1,4 +1,4 @@
-//! What holds of printing and reading together, for the proofs of the crates above. The function does nothing.
+//! What holds of printing and reading together, for the proofs of the crates above. The functions do nothing.
 
 ghost use Rattle.cgs_print.specs.RoundTrip.{ReadsBack, SpellsValid};
 ghost use Rattle.cgs_print.specs.Telling.{ListsAreTold, BasesAreTold, PlacesAreTold};

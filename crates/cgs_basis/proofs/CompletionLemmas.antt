@@ -15,16 +15,16 @@ use Rattle.cgs_algebra.proofs.MemberLemmas.{zero_member, same_member, sum_member
 use Rattle.cgs_algebra.proofs.GroebnerLemmas.{complete_groebner}
 use Rattle.cgs_algebra.proofs.GroebnerLemmas as any
 use Rattle.cgs_algebra.proofs.PlaceLemmas.{member_at}
-use Rattle.cgs_divide.specs.DivisionRun.{divided, is_too_high}
+use Rattle.cgs_divide.specs.DivisionRun.{divided, remainder_of, is_too_high}
 use Rattle.cgs_divide.specs.Division.{HasDivided}
 use Rattle.cgs_field.specs.Inverse.{inverse}
 use Rattle.cgs_poly.specs.Monic.{monic_of}
 use Rattle.cgs_poly.specs.Same.{is_among}
-use Rattle.cgs_divide.specs.AutoreductionRun.{ListRun, done, out_of_budget, out_of_degree}
-use Rattle.cgs_divide.proofs.DivisionLemmas.{divided_divides}
+use Rattle.cgs_divide.specs.Ending.{Ending, ended}
+use Rattle.cgs_divide.proofs.DivisionLemmas.{left_divided}
 use Rattle.cgs_divide.proofs.AutoreductionLemmas.{remainder_member}
 use Rattle.cgs_divide.proofs.MonicLemmas.{monic_canonical, monic_one, monic_scaled, monic_back}
-use Rattle.cgs_divide.proofs.AutoreductionRunLemmas.{went_on}
+use Rattle.cgs_divide.proofs.EndingLemmas.{has_followed, past_budget, past_degree}
 use Rattle.cgs_pairs.specs.declared.pair.Pair.{Pair}
 use Rattle.cgs_pairs.specs.PairOrder.{IsWaiting}
 use Rattle.cgs_pairs.specs.Passed.{is_passed, AreRepresented}
@@ -38,16 +38,6 @@ use Rattle.cgs_basis.proofs.RepresentedLemmas.{pair_polynomial, pair_canonical, 
 use Rattle.cgs_basis.proofs.StateLemmas.{IsSound, IsSettledAt, AreSettled, pairs_kept, taken_settled, appended_sound, appended_settled, new_waits}
 use Rattle.std.specs.List.{AllByRecursion}
 use Rattle.cgs_list.proofs.ListLemmas.{all_weaker}
-
--- tests that a run has passed
-
-pub past_budget : (b : Bool) (units : ℕ) (run : ListRun) (R : List (List Term)) (left : ℕ) → cond b (out_of_budget units) run ≡ done R left → run ≡ done R left
-past_budget true units run R left e = absurd (cc)
-past_budget false units run R left e = e
-
-pub past_degree : (b : Bool) (units : ℕ) (run : ListRun) (R : List (List Term)) (left : ℕ) → cond b (out_of_degree units) run ≡ done R left → run ≡ done R left
-past_degree true units run R left e = absurd (cc)
-past_degree false units run R left e = e
 
 module _ (ring : Ring) (r : IsRing ring) (F : List (List Term)) (can : AllByRecursion (IsCanonical ring) F) where
   pos : 0 < ring.modulus
@@ -231,35 +221,36 @@ module _ (ring : Ring) (r : IsRing ring) (F : List (List Term)) (can : AllByRecu
   -- the run
 
   -- what ends with a list has found a Gröbner basis, where the members generate the ideal
-  abbrev FindsBasis : Completion → List (ℕ × ℕ) → ListRun → List (List Term) → ℕ → Type 0
+  abbrev FindsBasis : Completion → List (ℕ × ℕ) → Ending (List (List Term)) → List (List Term) → ℕ → Type 0
   FindsBasis s taken run R left =
-      IsGood s taken → AllByRecursion (IsMember ring s.members) F → run ≡ done R left → AreMonic ring R × IsGroebnerBasis ring R F
+      IsGood s taken → AllByRecursion (IsMember ring s.members) F → run ≡ ended R left → AreMonic ring R × IsGroebnerBasis ring R F
 
-  least_groebner : (G : List (List Term)) (w : Pairs) (units left : ℕ) (next : Completion → List (ℕ × ℕ) → ℕ → ListRun) (R : List (List Term))
+  least_groebner : (G : List (List Term)) (w : Pairs) (units left : ℕ) (next : Completion → List (ℕ × ℕ) → ℕ → Ending (List (List Term))) (R : List (List Term))
       → ((t : Completion) (now : List (ℕ × ℕ)) (n : ℕ) → FindsBasis t now (next t now n) R left)
       → FindsBasis (record { members = G; pairs = w.waiting }) w.taken (after_least ring G w units next) R left
   least_groebner G w units left next R ih h f e = by_pairs w.waiting h e
     where
-      ended : {i j : ℕ} → IsSettledAt ring G [] i j → HasLcmRepresentation ring G i j
-      ended (inl q) = absurd q.1
-      ended (inr r) = r
+      represented : {i j : ℕ} → IsSettledAt ring G [] i j → HasLcmRepresentation ring G i j
+      represented (inl q) = absurd q.1
+      represented (inr r) = r
 
       by_pairs : (pairs : List Pair) → IsGood (record { members = G; pairs = pairs }) w.taken
-          → after_least ring G (record { waiting = pairs; taken = w.taken }) units next ≡ done R left → AreMonic ring R × IsGroebnerBasis ring R F
+          → after_least ring G (record { waiting = pairs; taken = w.taken }) units next ≡ ended R left → AreMonic ring R × IsGroebnerBasis ring R F
       by_pairs [] k e =
           let t : G ≡ R = cc in
-          let basis : IsGroebnerBasis ring G F = complete_groebner ring G F pos k.sound.monic k.sound.inside f (λ i j l m. ended (k.settled.at i j l m)) in
+          let basis : IsGroebnerBasis ring G F =
+          complete_groebner ring G F pos k.sound.monic k.sound.inside f (λ i j l m. represented (k.settled.at i j l m)) in
           subst (λ S. AreMonic ring S × IsGroebnerBasis ring S F) t (k.sound.monic, basis)
       by_pairs (q ∷ pairs) k e =
           let a = past_budget (ltb units 1) units _ R left e in
           let b = past_degree (is_too_high (pair_terms ring G q)) (units - 1) _ R left a in
           let u : Completion = record { members = G; pairs = pairs } in
-          let v = went_on (divided ring G (units - 1) (canonical ring (pair_terms ring G q))) (λ remainder n.
+          let v = has_followed (remainder_of (divided ring G (units - 1) (canonical ring (pair_terms ring G q)))) (λ remainder n.
           next (with_remainder ring u remainder) (with_taken w.taken q) n) R left b in
-          let d = divided_divides ring G pos k.sound.monic (units - 1) v.units (canonical ring (pair_terms ring G q))
-          v.remainder v.quotients (s_canonical G q pairs w.taken k) v.divided in
-          ih (with_remainder ring u v.remainder) (with_taken w.taken q) v.units (step_good G q pairs w.taken k v.remainder v.quotients d)
-          (all_weaker (IsMember ring G) (IsMember ring (with_remainder ring u v.remainder).members) F f (still_inside G q pairs w.taken k v.remainder)) v.rest
+          let d = left_divided ring G (units - 1) v.units (canonical ring (pair_terms ring G q)) v.first pos k.sound.monic
+          (s_canonical G q pairs w.taken k) v.ran in
+          ih (with_remainder ring u v.first) (with_taken w.taken q) v.units (step_good G q pairs w.taken k v.first d.quotients d.divided)
+          (all_weaker (IsMember ring G) (IsMember ring (with_remainder ring u v.first).members) F f (still_inside G q pairs w.taken k v.first)) v.then
 
   run_groebner : (steps : ℕ) (s : Completion) (taken : List (ℕ × ℕ)) (units left : ℕ) (R : List (List Term))
       → FindsBasis s taken (completed_in steps ring s taken units) R left
@@ -269,6 +260,6 @@ module _ (ring : Ring) (r : IsRing ring) (F : List (List Term)) (can : AllByRecu
       (λ t now n. run_groebner steps t now n left R) (passed_good s.members s.pairs taken h) f e
 
   -- a completion that ends has found a Gröbner basis of monic members
-  pub completion_groebner : (units left : ℕ) (R : List (List Term)) → completion ring F units ≡ done R left → AreMonic ring R × IsGroebnerBasis ring R F
+  pub completion_groebner : (units left : ℕ) (R : List (List Term)) → completion ring F units ≡ ended R left → AreMonic ring R × IsGroebnerBasis ring R F
   unfolding completion
   completion_groebner units left R e = run_groebner (suc units) (start ring F) [] units left R started.good started.here e

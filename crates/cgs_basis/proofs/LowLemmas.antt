@@ -8,12 +8,13 @@ use Rattle.cgs_poly.proofs.RingLemmas.{ring_positive}
 use Rattle.cgs_poly.proofs.CanonicalLemmas.{canonical_low}
 use Rattle.cgs_poly.proofs.MonicLemmas.{monic_poly}
 use Rattle.cgs_algebra.specs.Groebner.{AreMonic}
-use Rattle.cgs_divide.specs.DivisionRun.{divided, is_too_high}
-use Rattle.cgs_divide.specs.AutoreductionRun.{ListRun, done, out_of_degree, autoreduction}
-use Rattle.cgs_divide.proofs.DivisionLemmas.{divided_divides}
+use Rattle.cgs_divide.specs.DivisionRun.{divided, remainder_of, is_too_high}
+use Rattle.cgs_divide.specs.Ending.{Ending, ended, out_of_degree}
+use Rattle.cgs_divide.specs.AutoreductionRun.{autoreduction}
+use Rattle.cgs_divide.proofs.DivisionLemmas.{left_divided}
 use Rattle.cgs_divide.proofs.QuotientLemmas.{not_too_high}
 use Rattle.cgs_divide.proofs.MonicLemmas.{monic_one}
-use Rattle.cgs_divide.proofs.AutoreductionRunLemmas.{went_on}
+use Rattle.cgs_divide.proofs.EndingLemmas.{has_followed, past_budget, past_degree}
 use Rattle.cgs_divide.proofs.LowLemmas.{autoreduction_polys}
 use Rattle.cgs_pairs.specs.declared.pair.Pair.{Pair}
 use Rattle.cgs_pairs.specs.PairOrder.{PairQueue}
@@ -23,11 +24,10 @@ use Rattle.cgs_basis.specs.BasisRun.{after_least, completed_in, start, completio
 use Rattle.cgs_basis.specs.Completion.{IsCompletion}
 use Rattle.cgs_basis.proofs.RepresentedLemmas.{pair_canonical}
 use Rattle.cgs_basis.proofs.StateLemmas.{appended_completion}
-use Rattle.cgs_basis.proofs.CompletionLemmas.{past_budget, past_degree}
-use Rattle.cgs_basis.proofs.BasisLemmas.{followed}
 
 -- a run that goes on had no degree that is too high
-low_enough : (b : Bool) (units : ℕ) (run : ListRun) (R : List (List Term)) (left : ℕ) → cond b (out_of_degree units) run ≡ done R left → b ≡ false
+low_enough : (b : Bool) (units : ℕ) (run : Ending (List (List Term))) (R : List (List Term)) (left : ℕ)
+    → cond b (out_of_degree units) run ≡ ended R left → b ≡ false
 low_enough true units run R left e = absurd (cc)
 low_enough false units run R left e = refl
 
@@ -93,16 +93,16 @@ module _ (ring : Ring) (r : IsRing ring) where
       by_test false k = h
 
   -- what ends with a list has monic polynomials of the ring
-  abbrev FindsPolys : Completion → ListRun → List (List Term) → ℕ → Type 0
-  FindsPolys s run R left = IsHeld s → run ≡ done R left → AreMonic ring R × ArePolys ring R
+  abbrev FindsPolys : Completion → Ending (List (List Term)) → List (List Term) → ℕ → Type 0
+  FindsPolys s run R left = IsHeld s → run ≡ ended R left → AreMonic ring R × ArePolys ring R
 
-  least_polys : (G : List (List Term)) (w : Pairs) (units left : ℕ) (next : Completion → List (ℕ × ℕ) → ℕ → ListRun) (R : List (List Term))
+  least_polys : (G : List (List Term)) (w : Pairs) (units left : ℕ) (next : Completion → List (ℕ × ℕ) → ℕ → Ending (List (List Term))) (R : List (List Term))
       → ((t : Completion) (now : List (ℕ × ℕ)) (n : ℕ) → FindsPolys t (next t now n) R left)
       → FindsPolys (record { members = G; pairs = w.waiting }) (after_least ring G w units next) R left
   least_polys G w units left next R ih h e = by_pairs w.waiting h e
     where
       by_pairs : (pairs : List Pair) → IsHeld (record { members = G; pairs = pairs })
-          → after_least ring G (record { waiting = pairs; taken = w.taken }) units next ≡ done R left → AreMonic ring R × ArePolys ring R
+          → after_least ring G (record { waiting = pairs; taken = w.taken }) units next ≡ ended R left → AreMonic ring R × ArePolys ring R
       by_pairs [] k e = let s : G ≡ R = cc in subst (λ S. AreMonic ring S × ArePolys ring S) s (k.monic, k.polys)
       by_pairs (q ∷ pairs) k e =
           let s : Completion = record { members = G; pairs = pairs } in
@@ -110,16 +110,17 @@ module _ (ring : Ring) (r : IsRing ring) where
           let a = past_budget (ltb units 1) units _ R left e in
           let low = low_enough (is_too_high (pair_terms ring G q)) (units - 1) _ R left a in
           let b = past_degree (is_too_high (pair_terms ring G q)) (units - 1) _ R left a in
-          let v = went_on (divided ring G (units - 1) f) (λ remainder n. next (with_remainder ring s remainder) (with_taken w.taken q) n) R left b in
+          let v = has_followed (remainder_of (divided ring G (units - 1) f))
+          (λ remainder n. next (with_remainder ring s remainder) (with_taken w.taken q) n) R left b in
           let p : IsPairOf G q = k.known q (inl refl) in
           let c = pair_canonical ring r G k.monic q.smaller q.larger (omega (arith, p.apart, p.within)) p.within in
-          let d = divided_divides ring G (ring_positive ring r) k.monic (units - 1) v.units f v.remainder v.quotients c v.divided in
-          let poly : IsPoly ring v.remainder =
+          let d = left_divided ring G (units - 1) v.units f v.first (ring_positive ring r) k.monic c v.ran in
+          let poly : IsPoly ring v.first =
           record {
-            canonical = d.canonical_remainder;
-            low = d.low_remainder (canonical_low ring (pair_terms ring G q) (not_too_high (pair_terms ring G q) low));
+            canonical = d.divided.canonical_remainder;
+            low = d.divided.low_remainder (canonical_low ring (pair_terms ring G q) (not_too_high (pair_terms ring G q) low));
           } in
-          ih (with_remainder ring s v.remainder) (with_taken w.taken q) v.units (remainder_held s v.remainder (rest_held G q pairs k) poly) v.rest
+          ih (with_remainder ring s v.first) (with_taken w.taken q) v.units (remainder_held s v.first (rest_held G q pairs k) poly) v.then
 
   run_polys : (steps : ℕ) (s : Completion) (taken : List (ℕ × ℕ)) (units left : ℕ) (R : List (List Term))
       → FindsPolys s (completed_in steps ring s taken units) R left
@@ -128,13 +129,13 @@ module _ (ring : Ring) (r : IsRing ring) where
       least_polys s.members (passed_over s.members s.pairs taken) units left (completed_in steps ring) R
       (λ t now n. run_polys steps t now n left R) (passed_held s.members s.pairs taken h) e
 
-  completion_polys : (F G : List (List Term)) (units left : ℕ) → ArePolys ring F → completion ring F units ≡ done G left → AreMonic ring G × ArePolys ring G
+  completion_polys : (F G : List (List Term)) (units left : ℕ) → ArePolys ring F → completion ring F units ≡ ended G left → AreMonic ring G × ArePolys ring G
   unfolding completion
   completion_polys F G units left k e = run_polys (suc units) (start ring F) [] units left G (started F k) e
 
-  pub basis_polys : (F R : List (List Term)) (units left : ℕ) → ArePolys ring F → basis_run ring F units ≡ done R left → ArePolys ring R
+  pub basis_polys : (F R : List (List Term)) (units left : ℕ) → ArePolys ring F → basis_run ring F units ≡ ended R left → ArePolys ring R
   unfolding basis_run
   basis_polys F R units left k e =
-      let w = followed (completion ring F units) (λ G left. autoreduction ring G left) R left e in
-      let h = completion_polys F w.members units w.units k w.first in
-      autoreduction_polys ring r w.members h.0 h.1 R w.units left w.second
+      let w = has_followed (completion ring F units) (autoreduction ring) R left e in
+      let h = completion_polys F w.first units w.units k w.ran in
+      autoreduction_polys ring r w.first h.0 h.1 R w.units left w.then

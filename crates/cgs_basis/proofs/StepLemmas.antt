@@ -4,9 +4,8 @@ use Rattle.std.proofs.Math.Seq.{drop-cons}
 use Rattle.cgs_poly.specs.Ring.{Ring}
 use Rattle.cgs_poly.specs.Polynomial.{Term, HasLowDegrees, canonical}
 use Rattle.cgs_algebra.specs.SPolynomial.{s_terms}
-use Rattle.cgs_divide.specs.DivisionRun as division
-use Rattle.cgs_divide.specs.DivisionRun.{divided, is_too_high}
-use Rattle.cgs_divide.specs.AutoreductionRun.{done, out_of_budget, out_of_degree, after_division}
+use Rattle.cgs_divide.specs.DivisionRun.{divided, remainder_of, is_too_high}
+use Rattle.cgs_divide.specs.Ending.{ended, out_of_budget, out_of_degree, followed}
 use Rattle.cgs_divide.proofs.StepLemmas.{high_unless_low, low_not_high}
 use Rattle.cgs_pairs.specs.declared.pair.Pair.{Pair}
 use Rattle.cgs_pairs.specs.PairOrder.{PairQueue, IsWaiting}
@@ -44,20 +43,20 @@ module _ (ring : Ring) (G : List (List Term)) (queue after : PairQueue) (taken n
         let high : is_too_high (pair_terms ring G q) ≡ true = ap is_too_high (sym terms_are) ∙ high_unless_low (s_terms ring f g) n in
         from_pair units ∙ (stops_at_degree ring G q after.pairs now units (completed ring) enough high ∙ ap out_of_degree (sym cost))
 
-    pub taken_division : (s : List Term) (run : division.Run) → HasLowDegrees (s_terms ring f g)
-        → s ≡ canonical ring (s_terms ring f g) → divided ring G paid s ≡ run
+    pub taken_division : (s : List Term) → HasLowDegrees (s_terms ring f g) → s ≡ canonical ring (s_terms ring f g)
         → completed ring (completion_of G queue) taken units
-        ≡ after_division run (λ remainder left. completed ring (with_remainder ring (completion_of G after) remainder) (with_taken now q) left)
-    taken_division s run low e d =
+        ≡ followed (remainder_of (divided ring G paid s))
+        (λ remainder left. completed ring (with_remainder ring (completion_of G after) remainder) (with_taken now q) left)
+    taken_division s low e =
         let flat : is_too_high (pair_terms ring G q) ≡ false = ap is_too_high (sym terms_are) ∙ low_not_high (s_terms ring f g) low in
-        let a : divided ring G (units - 1) (canonical ring (pair_terms ring G q)) ≡ run =
-        ap (λ n. divided ring G n (canonical ring (pair_terms ring G q))) (sym cost)
-        ∙ (ap (λ h. divided ring G paid h) (ap (λ h. canonical ring h) (sym terms_are) ∙ sym e) ∙ d) in
-        from_pair units ∙ goes_on ring G q after.pairs now units (completed ring) run enough flat a
+        let a : remainder_of (divided ring G (units - 1) (canonical ring (pair_terms ring G q))) ≡ remainder_of (divided ring G paid s) =
+        ap (λ n. remainder_of (divided ring G n (canonical ring (pair_terms ring G q)))) (sym cost)
+        ∙ ap (λ h. remainder_of (divided ring G paid h)) (ap (λ h. canonical ring h) (sym terms_are) ∙ sym e) in
+        from_pair units ∙ goes_on ring G q after.pairs now units (completed ring) (remainder_of (divided ring G paid s)) enough flat a
 
 -- no pair is left
 pub none_left : (ring : Ring) (G : List (List Term)) (queue : PairQueue) (taken now : List (ℕ × ℕ)) (units : ℕ)
-    → passed_over G queue.pairs taken ≡ record { waiting = []; taken = now } → completed ring (completion_of G queue) taken units ≡ done G units
+    → passed_over G queue.pairs taken ≡ record { waiting = []; taken = now } → completed ring (completion_of G queue) taken units ≡ ended G units
 none_left ring G queue taken now units e = completed_from ring (completion_of G queue) taken (record { waiting = []; taken = now }) units e
 
 -- one pair after another is passed

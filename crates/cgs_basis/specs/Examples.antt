@@ -4,7 +4,7 @@ use Rattle.cgs_order.specs.declared.kind.Kind.TheVariants.{Lex}
 use Rattle.cgs_poly.specs.Ring.{Ring}
 use Rattle.cgs_poly.specs.Polynomial.{Term, term}
 use Rattle.cgs_algebra.specs.Examples as plain
-use Rattle.cgs_divide.specs.AutoreductionRun.{done, out_of_budget, out_of_degree}
+use Rattle.cgs_divide.specs.Ending.{ended, out_of_budget, out_of_degree}
 use Rattle.cgs_basis.specs.BasisRun.{completion, basis_run}
 
 -- modulo 7 in x and y with the parameter a
@@ -108,7 +108,7 @@ with_centre = term 1 (1 ∷ 0 ∷ 1 ∷ 0 ∷ []) ∷ term 16001 (0 ∷ 0 ∷ 2 
 
 -- a run needs so many units exactly: it ends with none left, and with one fewer it ends before
 abbrev pub Needs : Ring → List (List Term) → ℕ → List (List Term) → Type 0
-Needs ring F units R = (basis_run ring F units ≡ done R 0) × (basis_run ring F (units - 1) ≡ out_of_budget 0)
+Needs ring F units R = (basis_run ring F units ≡ ended R 0) × (basis_run ring F (units - 1) ≡ out_of_budget 0)
 
 -- x^2 + a and x*y + 1 need 16 units; with one unit the run takes their pair and no more
 abbrev pub ParametricRuns : Type 0
@@ -117,14 +117,14 @@ ParametricRuns = Needs three generators 16 reduced × (basis_run three generator
 -- x^2 - 1 and x*y - 1 need 16 units: 12 for the completion, which appends two remainders, and 4 for the autoreduction
 abbrev pub PlainRuns : Type 0
 PlainRuns =
-    (completion plain.seven plain.generators 12 ≡ done (plain.x_squared_less_one ∷ plain.xy_less_one ∷ plain.x_less_y ∷ plain.y_squared_less_one ∷ []) 0)
+    (completion plain.seven plain.generators 12 ≡ ended (plain.x_squared_less_one ∷ plain.xy_less_one ∷ plain.x_less_y ∷ plain.y_squared_less_one ∷ []) 0)
     × Needs plain.seven plain.generators 16 plain.basis
 
 -- one polynomial needs as many units as it has terms, and 0 and a double of it change nothing. So do two whose leads are coprime: their pair is passed.
 -- a*x + 6 and a become 1: their pair costs 1, and its remainder and the last member cost 1 each
 abbrev pub ShortRuns : Type 0
 ShortRuns =
-    (basis_run two [] 0 ≡ done [] 0)
+    (basis_run two [] 0 ≡ ended [] 0)
     × Needs two (ax_less_one ∷ []) 2 (ax_less_one ∷ [])
     × Needs two (doubled ∷ nothing ∷ ax_less_one ∷ []) 2 (ax_less_one ∷ [])
     × Needs two (ax_less_one ∷ a ∷ []) 3 (one ∷ [])

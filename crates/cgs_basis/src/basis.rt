@@ -1,9 +1,9 @@
 //! The reduced Gröbner basis of an ideal.
 
-ghost use Rattle.std.specs.Prelude.{◌≡◌, ◌≤◌, List, IfOk, IsErrOf};
+ghost use Rattle.std.specs.Prelude.{◌≡◌, ◌≤◌, List, IfOk};
 ghost use Rattle.cgs_poly.specs.Polynomial.{Term, IsRing, ArePolys};
 ghost use Rattle.cgs_algebra.specs.Groebner.{IsReduced, IsAscending};
-ghost use Rattle.cgs_divide.specs.AutoreductionRun.{done, out_of_budget, out_of_degree};
+ghost use Rattle.cgs_divide.specs.Ending.{EndsAs};
 ghost use Rattle.cgs_basis.specs.BasisRun.{basis_run};
 
 use crate::completion::complete;
@@ -21,13 +21,11 @@ pub fn reduced_basis(
 ) -> Result<PolyList, Stop>
     requires ring { IsRing ring.now }
     requires polys { ArePolys ring.now generators.now }
-    ensures ok { IfOk result (λ R. basis_run ring.now generators.now fuel.old ≡ done R fuel.new) }
+    ensures ends { EndsAs (basis_run ring.now generators.now fuel.old) fuel.new result }
     ensures reduced { IfOk result (λ R. IsReduced ring.now R generators.now) }
     ensures ascending { IfOk result (λ R. IsAscending ring.now R) }
     ensures unique { IfOk result (λ R. (S : List (List Term)) → IsReduced ring.now S generators.now → IsAscending ring.now S → S ≡ R) }
     ensures polys { IfOk result (λ R. ArePolys ring.now R) }
-    ensures budget { IsErrOf result Stop.Budget → basis_run ring.now generators.now fuel.old ≡ out_of_budget fuel.new }
-    ensures degree { IsErrOf result Stop.Degree → basis_run ring.now generators.now fuel.old ≡ out_of_degree fuel.new }
     ensures units { fuel.new ≤ fuel.old }
 {
     let members = complete(alloc, ring, generators, fuel)?;

@@ -1,11 +1,11 @@
 //! Completion: Buchberger's algorithm up to a Gröbner basis that need not be reduced.
 
-ghost use Rattle.std.specs.Prelude.{◌≡◌, ◌<◌, ◌≤◌, [], ◌∷◌, length, IfOk, IfSome, IsNone, OnOk, IsErrOf};
+ghost use Rattle.std.specs.Prelude.{◌≡◌, ◌<◌, ◌≤◌, [], ◌∷◌, length, IfOk, IfSome, IsNone, OnOk};
 ghost use Rattle.cgs_poly.specs.Polynomial.{IsRing, IsPoly, order_of, ArePolys};
 ghost use Rattle.cgs_poly.specs.Product.{leading_monomial, leading_coefficient};
 ghost use Rattle.cgs_algebra.specs.Groebner.{AreMonic, IsGroebnerBasis};
 ghost use Rattle.cgs_algebra.specs.SPolynomial.{pair_lcm};
-ghost use Rattle.cgs_divide.specs.AutoreductionRun.{done, out_of_budget, out_of_degree};
+ghost use Rattle.cgs_divide.specs.Ending.{EndsAs};
 ghost use Rattle.cgs_pairs.specs.PairOrder.{pair};
 ghost use Rattle.cgs_pairs.specs.Passed.{IsPairOf};
 ghost use Rattle.cgs_basis.specs.BasisRun.{appended, with_pairs, with_generator, with_remainder, completion};
@@ -28,12 +28,10 @@ pub fn complete(
 ) -> Result<PolyList, Stop>
     requires ring { IsRing ring.now }
     requires polys { ArePolys ring.now generators.now }
-    ensures ok { IfOk result (λ G. completion ring.now generators.now fuel.old ≡ done G fuel.new) }
+    ensures ends { EndsAs (completion ring.now generators.now fuel.old) fuel.new result }
     ensures basis { IfOk result (λ G. IsGroebnerBasis ring.now G generators.now) }
     ensures monic { IfOk result (λ G. AreMonic ring.now G) }
     ensures polys { IfOk result (λ G. ArePolys ring.now G) }
-    ensures budget { IsErrOf result Stop.Budget → completion ring.now generators.now fuel.old ≡ out_of_budget fuel.new }
-    ensures degree { IsErrOf result Stop.Degree → completion ring.now generators.now fuel.old ≡ out_of_degree fuel.new }
     ensures units { fuel.new ≤ fuel.old }
 {
     let mut members = PolyList::new(alloc);

@@ -1,5 +1,5 @@
 -- An autoreduction that ends: each member that is kept was divided by the results before it.
-use Rattle.std.proofs.Common.{ℕ, suc, ◌≡◌, ◌+◌, ◌<◌, ◌≤◌, ◌⊎◌, inl, inr, true, List, [], ◌∷◌, ◌++◌, length, get_or, take, drop, add-one, refl, sym, ap, ◌∙◌}
+use Rattle.std.proofs.Common.{ℕ, suc, ◌≡◌, ◌+◌, ◌<◌, ◌≤◌, ◌⊎◌, inl, inr, true, List, [], ◌∷◌, ◌++◌, length, get_or, take, drop, add-one, sym, ap, ◌∙◌}
 use Rattle.std.proofs.Common.{subst, arith}
 use Rattle.std.proofs.lemmas.Bool.{cases_order}
 use Rattle.std.proofs.Math.Seq.{drop-cons, get_or-append_seam, take-append_seam}
@@ -9,31 +9,19 @@ use Rattle.cgs_poly.specs.Ring.{Ring}
 use Rattle.cgs_poly.specs.Polynomial.{Term, IsRing, IsCanonical}
 use Rattle.cgs_poly.specs.Product.{leading_monomial, leading_coefficient}
 use Rattle.cgs_algebra.specs.Groebner.{AreMonic, IsGroebnerBasis, IsReduced, IsAscending, leading_monomial_at}
-use Rattle.cgs_divide.specs.DivisionRun as division
-use Rattle.cgs_divide.specs.Division.{HasDivided}
+use Rattle.cgs_divide.specs.Ending.{Ending, ended, followed}
+use Rattle.cgs_divide.specs.DivisionRun.{divided, remainder_of}
+use Rattle.cgs_divide.specs.Division.{HasDivided, IsRemainder}
 use Rattle.cgs_divide.specs.Autoreduction.{IsDividedAt}
 use Rattle.cgs_poly.specs.Monic.{monic_of}
-use Rattle.cgs_divide.specs.AutoreductionRun.{ListRun, done, after_division, minimal_members, reduced_after, autoreduction}
-use Rattle.cgs_divide.proofs.DivisionLemmas.{divided_divides}
+use Rattle.cgs_divide.specs.AutoreductionRun.{minimal_members, reduced_after, autoreduction}
+use Rattle.cgs_divide.proofs.DivisionLemmas.{left_divided}
+use Rattle.cgs_divide.proofs.EndingLemmas.{has_followed}
 use Rattle.cgs_divide.proofs.AutoreductionLemmas.{HasLead, lead_kept, autoreduced}
 use Rattle.cgs_divide.proofs.MonicLemmas.{monic_itself}
 use Rattle.cgs_divide.proofs.MinimalLemmas.{members_ascending, members_monic, members_apart, members_minimal}
 use Rattle.cgs_list.proofs.ListLemmas.{all_by_places}
 use Rattle.cgs_algebra.proofs.PlaceLemmas.{canonical_at, monic_at}
-
--- a run that goes on after a division and ends with a list
-pub record WentOn (run : division.Run) (next : List Term → ℕ → ListRun) (S : List (List Term)) (left : ℕ) : Type 0 where
-  pub remainder : List Term
-  pub quotients : List (List Term)
-  pub units : ℕ
-  pub divided : run ≡ division.done remainder quotients units
-  pub rest : next remainder units ≡ done S left
-
-pub went_on : (run : division.Run) (next : List Term → ℕ → ListRun) (S : List (List Term)) (left : ℕ)
-    → after_division run next ≡ done S left → WentOn run next S left
-went_on (division.done r q u) next S left e = record { remainder = r; quotients = q; units = u; divided = refl; rest = e }
-went_on (division.out_of_budget u) next S left e = absurd (cc)
-went_on (division.out_of_degree u) next S left e = absurd (cc)
 
 -- results so far, for the first members
 pub record AreResults (ring : Ring) (A R : List (List Term)) : Type 0 where
@@ -58,20 +46,20 @@ module _ (ring : Ring) (r : IsRing ring) (two : 1 < ring.modulus) (A : List (Lis
     pub divided : HasDivided ring R f remainder quotients
     pub leads : HasLead (leading_monomial f) remainder
 
-  next_found : (R : List (List Term)) (f remainder : List Term) (quotients : List (List Term)) (units left : ℕ)
+  next_found : (R : List (List Term)) (f remainder : List Term) (units left : ℕ)
       → AreResults ring A R → length R < length A → get_or A (length R) [] ≡ f
-      → division.divided ring R units f ≡ division.done remainder quotients left → IsNext R f remainder
-  next_found R [] remainder quotients units left h l e d =
+      → remainder_of (divided ring R units f) ≡ ended remainder left → IsNext R f remainder
+  next_found R [] remainder units left h l e d =
       let z : leading_coefficient [] ≡ 1 = ap leading_coefficient (sym e) ∙ monic_at A monic.monic (length R) l in absurd (omega arith)
-  next_found R (x ∷ f) remainder quotients units left h l e d =
+  next_found R (x ∷ f) remainder units left h l e d =
       let can : IsCanonical ring (x ∷ f) = subst (λ q. IsCanonical ring q) e (canonical_at ring A monic.canonical (length R) l) in
       let one : x.coefficient ≡ 1 = ap leading_coefficient (sym e) ∙ monic_at A monic.monic (length R) l in
       let ok : AreMonic ring R = results_monic ring A R h in
-      let found : HasDivided ring R (x ∷ f) remainder quotients = divided_divides ring R pos ok units left (x ∷ f) remainder quotients can d in
+      let found : IsRemainder ring R (x ∷ f) remainder = left_divided ring R units left (x ∷ f) remainder pos ok can d in
       record {
-        quotients = quotients;
-        divided = found;
-        leads = lead_kept ring pos R ok two x f remainder quotients can one found (λ j k n.
+        quotients = found.quotients;
+        divided = found.divided;
+        leads = lead_kept ring pos R ok two x f remainder found.quotients can one found.divided (λ j k n.
             let s : divides (leading_monomial_at A j) (leading_monomial_at A (length R)) ≡ true =
             subst (λ m. divides m (leading_monomial_at A (length R)) ≡ true) (h.leads j k).lead_is
             (subst (λ m. divides (leading_monomial_at R j) m ≡ true) (sym (ap leading_monomial e)) n) in
@@ -120,26 +108,21 @@ module _ (ring : Ring) (r : IsRing ring) (two : 1 < ring.modulus) (A : List (Lis
   -- the run goes on with the next member
 
   -- what follows the division of the member at a place
-  abbrev next_run : List (List Term) → ℕ → List Term → ℕ → ListRun
+  abbrev next_run : List (List Term) → ℕ → List Term → ℕ → Ending (List (List Term))
   next_run R n remainder left = reduced_after ring (R ++ monic_of ring remainder ∷ []) (drop (suc n) A) left
 
-  run_step : (R : List (List Term)) (n units : ℕ) → n < length A
-      → reduced_after ring R (drop n A) units ≡ after_division (division.divided ring R units (get_or A n [])) (next_run R n)
+  pub run_step : (R : List (List Term)) (n units : ℕ) → n < length A
+      → reduced_after ring R (drop n A) units ≡ followed (remainder_of (divided ring R units (get_or A n []))) (next_run R n)
   run_step R n units l = ap (λ K. reduced_after ring R K units) (drop-cons A n [] l)
 
-  pub run_stops : (R : List (List Term)) (n units : ℕ) (run : division.Run) → n < length A → division.divided ring R units (get_or A n []) ≡ run
-      → reduced_after ring R (drop n A) units ≡ after_division run (next_run R n)
-  run_stops R n units run l e = run_step R n units l ∙ ap (λ q. after_division q (next_run R n)) e
-
-  pub run_goes_on : (R : List (List Term)) (n units left : ℕ) (remainder : List Term) (quotients : List (List Term))
-      → AreResults ring A R → length R ≡ n → n < length A
-      → division.divided ring R units (get_or A n []) ≡ division.done remainder quotients left
+  pub run_goes_on : (R : List (List Term)) (n units left : ℕ) (remainder : List Term) → AreResults ring A R → length R ≡ n → n < length A
+      → remainder_of (divided ring R units (get_or A n [])) ≡ ended remainder left
       → (reduced_after ring R (drop n A) units ≡ reduced_after ring (R ++ remainder ∷ []) (drop (n + 1) A) left) × AreResults ring A (R ++ remainder ∷ [])
-  run_goes_on R n units left remainder quotients h c l e =
+  run_goes_on R n units left remainder h c l e =
       let k : length R < length A = omega arith in
       let at : get_or A (length R) [] ≡ get_or A n [] = ap (λ j. get_or A j []) c in
-      let m = next_found R (get_or A n []) remainder quotients units left h k at e in
-      let s = run_stops R n units (division.done remainder quotients left) l e in (
+      let m = next_found R (get_or A n []) remainder units left h k at e in
+      let s = run_step R n units l ∙ ap (λ q. followed q (next_run R n)) e in (
         rw add-one (s ∙ ap (λ q. reduced_after ring (R ++ q ∷ []) (drop (suc n) A) left) (next_monic R (get_or A n []) remainder m)),
         more_results R (get_or A n []) remainder h k at m,
       )
@@ -160,22 +143,22 @@ module _ (ring : Ring) (r : IsRing ring) (two : 1 < ring.modulus) (A : List (Lis
   next_at R K f h = let e : length R + 0 ≡ length R = omega arith in ap (λ n. get_or A n []) (sym e) ∙ h.1 0 (omega arith)
 
   run_divides : (K R S : List (List Term)) (units left : ℕ) → AreResults ring A R → Follows R K
-      → reduced_after ring R K units ≡ done S left → AreResults ring A S × (length S ≡ length A)
+      → reduced_after ring R K units ≡ ended S left → AreResults ring A S × (length S ≡ length A)
   run_divides [] R S units left h k e =
       let s : R ≡ S = cc in
       let l : length S ≡ length R = ap length (sym s) in
       (subst (λ T. AreResults ring A T) s h, omega (arith, l, k.0))
   run_divides (f ∷ K) R S units left h k e =
-      let w = went_on (division.divided ring R units f) (λ remainder left. reduced_after ring (R ++ monic_of ring remainder ∷ []) K left) S left e in
+      let w = has_followed (remainder_of (divided ring R units f)) (λ remainder left. reduced_after ring (R ++ monic_of ring remainder ∷ []) K left) S left e in
       let at : get_or A (length R) [] ≡ f = next_at R K f k in
       let l : length R < length A = omega (arith, k.0) in
-      let n : IsNext R f w.remainder = next_found R f w.remainder w.quotients units w.units h l at w.divided in
-      let m : reduced_after ring (R ++ w.remainder ∷ []) K w.units ≡ done S left = rw (← next_monic R f w.remainder n) w.rest in
-      run_divides K (R ++ w.remainder ∷ []) S w.units left (more_results R f w.remainder h l at n) (follows_next R K f w.remainder k) m
+      let n : IsNext R f w.first = next_found R f w.first units w.units h l at w.ran in
+      let m : reduced_after ring (R ++ w.first ∷ []) K w.units ≡ ended S left = rw (← next_monic R f w.first n) w.then in
+      run_divides K (R ++ w.first ∷ []) S w.units left (more_results R f w.first h l at n) (follows_next R K f w.first k) m
 
 -- what an autoreduction of monic members finds: the members that are kept, each divided by the results before it
 pub autoreduction_divides : (ring : Ring) (G R : List (List Term)) (units left : ℕ) → IsRing ring → 1 < ring.modulus → AreMonic ring G
-    → autoreduction ring G units ≡ done R left → AreResults ring (minimal_members ring G) R × (length R ≡ length (minimal_members ring G))
+    → autoreduction ring G units ≡ ended R left → AreResults ring (minimal_members ring G) R × (length R ≡ length (minimal_members ring G))
 unfolding autoreduction
 autoreduction_divides ring G R units left r two ok e =
     let pos : 0 < ring.modulus = omega arith in
@@ -187,7 +170,7 @@ autoreduction_divides ring G R units left r two ok e =
 -- the answer for a Gröbner basis is the reduced one, with ascending leads
 pub autoreduction_reduces : (ring : Ring) (G F R : List (List Term)) (units left : ℕ)
     → IsRing ring → 1 < ring.modulus → AreMonic ring G → IsGroebnerBasis ring G F
-    → autoreduction ring G units ≡ done R left → IsReduced ring R F × IsAscending ring R
+    → autoreduction ring G units ≡ ended R left → IsReduced ring R F × IsAscending ring R
 autoreduction_reduces ring G F R units left r two ok basis e =
     let pos : 0 < ring.modulus = omega arith in
     let h = autoreduction_divides ring G R units left r two ok e in

@@ -10,9 +10,8 @@ use Rattle.cgs_exps.proofs.MonomialLemmas.{product_comm, quotient_product, quoti
 use Rattle.cgs_order.specs.TermOrder.{compared}
 use Rattle.cgs_poly.specs.Ring.{Ring}
 use Rattle.cgs_poly.specs.Polynomial.{Term, term, places, order_of, total, IsOfRing, StartsBelow, IsCanonical, HasLowDegrees, greatest_degree}
-use Rattle.cgs_poly.specs.Polynomial.{IsRing, IsPoly}
+use Rattle.cgs_poly.specs.Polynomial.{IsPoly}
 use Rattle.cgs_poly.specs.Product.{multiple, leading_monomial, leading_coefficient}
-use Rattle.cgs_poly.proofs.RingLemmas.{ring_positive}
 use Rattle.cgs_poly.proofs.SumLemmas.{alike_same, alike_from_coefficients, coefficients_from_alike, total_append}
 use Rattle.cgs_poly.proofs.CanonicalLemmas.{all_below_canonical, AllBelow, all_below_append, canonical_of_ring, is_canonical, canonical_alike, canonical_same}
 use Rattle.cgs_poly.proofs.CanonicalLemmas.{canonical_starts, canonical_low, append_of_ring, append_low, starts_lower}
@@ -21,9 +20,12 @@ use Rattle.cgs_poly.proofs.MultipleLemmas.{multiple_falls}
 use Rattle.cgs_poly.proofs.ProductOrderLemmas.{compared_shift}
 use Rattle.cgs_algebra.specs.Groebner.{AreMonic, DividesNone, leading_monomial_at}
 use Rattle.cgs_algebra.proofs.RepresentationLemmas.{lead_at_length}
-use Rattle.cgs_divide.specs.DivisionRun.{Run, done, out_of_budget, out_of_degree, first_divisor, is_too_high, less_multiple, charged, with_remainder}
-use Rattle.cgs_divide.specs.DivisionRun.{with_quotient, added_at, divided_in, divided, LeavesRemainder}
+use Rattle.cgs_divide.specs.declared.division.Division.{Division}
+use Rattle.cgs_divide.specs.Ending.{Ending, ended, out_of_budget, out_of_degree}
+use Rattle.cgs_divide.specs.DivisionRun.{done, remainder_of, first_divisor, is_too_high, less_multiple, charged, with_remainder}
+use Rattle.cgs_divide.specs.DivisionRun.{with_quotient, added_at, divided_in, divided}
 use Rattle.cgs_divide.specs.Division.{products, TermsBelow, HasDivided, IsRemainder}
+use Rattle.cgs_divide.proofs.EndingLemmas.{ended_same, has_followed}
 use Rattle.cgs_divide.proofs.QuotientLemmas.{divisor_divides, none_divides, not_too_high, added_length, total_added, below_added}
 use Rattle.cgs_divide.proofs.QuotientLemmas.{below_at, zeros, zeros_length, zeros_products, zeros_below}
 use Rattle.std.specs.List.{AllByRecursion}
@@ -99,22 +101,29 @@ all_added P (suc i) y (q ∷ quotients) here all = (all.0, all_added P i y quoti
 
 -- the ways a run ends with a remainder
 
-by_cond : (b : Bool) (A B D : Run) (Goal : Type 0) → cond b A B ≡ D → (b ≡ true → A ≡ D → Goal) → (b ≡ false → B ≡ D → Goal) → Goal
+by_cond : (b : Bool) (A B D : Ending Division) (Goal : Type 0) → cond b A B ≡ D → (b ≡ true → A ≡ D → Goal) → (b ≡ false → B ≡ D → Goal) → Goal
 by_cond true A B D Goal e f g = f refl e
 by_cond false A B D Goal e f g = g refl e
 
-remainder_of : (x : Term) (run : Run) (remainder : List Term) (quotients : List (List Term)) (left : ℕ) → with_remainder x run ≡ done remainder quotients left
-    → (rest : List Term) × (run ≡ done rest quotients left) × (x ∷ rest ≡ remainder)
-remainder_of x (done r q u) remainder quotients left e = (r, cc, cc)
-remainder_of x (out_of_budget u) remainder quotients left e = absurd (cc)
-remainder_of x (out_of_degree u) remainder quotients left e = absurd (cc)
+done_same : (r s : List Term) (Q P : List (List Term)) (m n : ℕ) → done r Q m ≡ done s P n → (r ≡ s) × (Q ≡ P) × (m ≡ n)
+done_same r s Q P m n e =
+    let k = ended_same _ _ m n e in (ap (λ (d : Division). d.remainder) k.0, ap (λ (d : Division). d.quotients) k.0, k.1)
 
-quotients_of : (i : ℕ) (x : Term) (run : Run) (remainder : List Term) (quotients : List (List Term)) (left : ℕ)
+without_term : (x : Term) (run : Ending Division) (remainder : List Term) (quotients : List (List Term)) (left : ℕ)
+    → with_remainder x run ≡ done remainder quotients left
+    → (rest : List Term) × (run ≡ done rest quotients left) × (x ∷ rest ≡ remainder)
+without_term x (ended d u) remainder quotients left e =
+    let s = done_same (x ∷ d.remainder) remainder d.quotients quotients u left e in (d.remainder, rw (s.1, s.2) refl, s.0)
+without_term x (out_of_budget u) remainder quotients left e = absurd (cc)
+without_term x (out_of_degree u) remainder quotients left e = absurd (cc)
+
+without_quotient : (i : ℕ) (x : Term) (run : Ending Division) (remainder : List Term) (quotients : List (List Term)) (left : ℕ)
     → with_quotient i x run ≡ done remainder quotients left
     → (rest : List (List Term)) × (run ≡ done remainder rest left) × (added_at i x rest ≡ quotients)
-quotients_of i x (done r q u) remainder quotients left e = (q, cc, cc)
-quotients_of i x (out_of_budget u) remainder quotients left e = absurd (cc)
-quotients_of i x (out_of_degree u) remainder quotients left e = absurd (cc)
+without_quotient i x (ended d u) remainder quotients left e =
+    let s = done_same d.remainder remainder (added_at i x d.quotients) quotients u left e in (d.quotients, rw (← s.0, ← s.2) refl, s.1)
+without_quotient i x (out_of_budget u) remainder quotients left e = absurd (cc)
+without_quotient i x (out_of_degree u) remainder quotients left e = absurd (cc)
 
 module _ (ring : Ring) (G : List (List Term)) (pos : 0 < ring.modulus) (ok : AreMonic ring G) where
   -- nothing is left to divide
@@ -246,7 +255,7 @@ module _ (ring : Ring) (G : List (List Term)) (pos : 0 < ring.modulus) (ok : Are
   }
 
   -- the same for the run
-  taken_step : (units left : ℕ) (run : Run) (remainder : List Term) (quotients : List (List Term))
+  taken_step : (units left : ℕ) (run : Ending Division) (remainder : List Term) (quotients : List (List Term))
       → charged (length g) units (cond (is_too_high (multiple x.coefficient t g)) (out_of_degree (units - length g)) (with_quotient i y run))
       ≡ done remainder quotients left
       → ((found : List (List Term)) → run ≡ done remainder found left → HasDivided ring G rest remainder found) → HasDivided ring G (x ∷ f) remainder quotients
@@ -254,26 +263,26 @@ module _ (ring : Ring) (G : List (List Term)) (pos : 0 < ring.modulus) (ok : Are
       by_cond (ltb units (length g)) _ _ (done remainder quotients left) (HasDivided ring G (x ∷ f) remainder quotients) e (λ b k. absurd (cc)) (λ b k.
       by_cond (is_too_high (multiple x.coefficient t g)) _ _ (done remainder quotients left)
       (HasDivided ring G (x ∷ f) remainder quotients) k (λ low n. absurd (cc)) (λ low n.
-      let found = quotients_of i y run remainder quotients left n in
+      let found = without_quotient i y run remainder quotients left n in
       subst (λ q. HasDivided ring G (x ∷ f) remainder q) found.2 (term_taken remainder found.0 low (ih found.0 found.1))))
 
 module _ (ring : Ring) (G : List (List Term)) (pos : 0 < ring.modulus) (ok : AreMonic ring G) where
-  kept_step : (x : Term) (f : List Term) (units left : ℕ) (run : Run) (remainder : List Term) (quotients : List (List Term)) → IsCanonical ring (x ∷ f)
+  kept_step : (x : Term) (f : List Term) (units left : ℕ) (run : Ending Division) (remainder : List Term) (quotients : List (List Term))
+      → IsCanonical ring (x ∷ f)
       → length G ≤ first_divisor G x.exponents
       → charged 1 units (with_remainder x run) ≡ done remainder quotients left
       → ((found : List Term) → run ≡ done found quotients left → HasDivided ring G f found quotients) → HasDivided ring G (x ∷ f) remainder quotients
   kept_step x f units left run remainder quotients h none e ih =
       by_cond (ltb units 1) _ _ (done remainder quotients left) (HasDivided ring G (x ∷ f) remainder quotients) e (λ b k. absurd (cc)) (λ b k.
-      let found = remainder_of x run remainder quotients left k in
+      let found = without_term x run remainder quotients left k in
       subst (λ r. HasDivided ring G (x ∷ f) r quotients) found.2 (term_kept ring G pos ok x f found.0 quotients h none (ih found.0 found.1)))
 
   run_divides : (steps units left : ℕ) (f remainder : List Term) (quotients : List (List Term)) → IsCanonical ring f
       → divided_in steps ring G units f ≡ done remainder quotients left → HasDivided ring G f remainder quotients
   run_divides zero units left f remainder quotients h e = absurd (cc)
   run_divides (suc n) units left [] remainder quotients h e =
-      let a : [] ≡ remainder = cc in
-      let b : zeros G ≡ quotients = cc in
-      subst (λ r. HasDivided ring G [] r quotients) a (subst (λ q. HasDivided ring G [] [] q) b (nothing_left ring G pos ok))
+      let s = done_same [] remainder (zeros G) quotients units left e in
+      subst (λ r. HasDivided ring G [] r quotients) s.0 (subst (λ q. HasDivided ring G [] [] q) s.1 (nothing_left ring G pos ok))
   run_divides (suc n) units left (x ∷ f) remainder quotients h e =
       by_cond (ltb (first_divisor G x.exponents) (length G)) _ _ (done remainder quotients left) (HasDivided ring G (x ∷ f) remainder quotients) e
       (λ b k.
@@ -294,12 +303,16 @@ module _ (ring : Ring) (G : List (List Term)) (pos : 0 < ring.modulus) (ok : Are
 
 -- a remainder that a run leaves
 
-pub left_divided : (ring : Ring) (G : List (List Term)) (units left : ℕ) (f remainder : List Term) → IsRing ring → AreMonic ring G → IsPoly ring f
-    → LeavesRemainder (divided ring G units f) remainder left → IsRemainder ring G f remainder
-left_divided ring G units left f remainder r ok h e = record {
-  quotients = e.quotients;
-  divided = divided_divides ring G (ring_positive ring r) ok units left f remainder e.quotients h.canonical e.ends;
-}
+pub left_divided : (ring : Ring) (G : List (List Term)) (units left : ℕ) (f remainder : List Term) → 0 < ring.modulus → AreMonic ring G → IsCanonical ring f
+    → remainder_of (divided ring G units f) ≡ ended remainder left → IsRemainder ring G f remainder
+left_divided ring G units left f remainder pos ok h e =
+    let w = has_followed (divided ring G units f) (λ d. ended d.remainder) remainder left e in
+    let same : w.first.remainder ≡ remainder = cc (w.then) in
+    record {
+      quotients = w.first.quotients;
+      divided = subst (λ r. HasDivided ring G f r w.first.quotients) same
+          (divided_divides ring G pos ok units w.units f w.first.remainder w.first.quotients h w.ran);
+    }
 
 pub remainder_poly : (ring : Ring) (G : List (List Term)) (f remainder : List Term) (quotients : List (List Term)) → IsPoly ring f
     → HasDivided ring G f remainder quotients → IsPoly ring remainder

@@ -1,3 +1,4 @@
+pub mod EndingLemmas
 pub mod QuotientLemmas
 pub mod DivisionLemmas
 pub mod QuotientCombinationLemmas

@@ -5,7 +5,8 @@ use Rattle.cgs_poly.specs.Ring.{Ring}
 use Rattle.cgs_poly.specs.Polynomial.{Term, IsRing, IsPoly, ArePolys}
 use Rattle.cgs_list.proofs.ListLemmas.{all_at_place, all_by_places}
 use Rattle.cgs_algebra.specs.Groebner.{AreMonic}
-use Rattle.cgs_divide.specs.AutoreductionRun.{done, minimal_members, autoreduction}
+use Rattle.cgs_divide.specs.Ending.{ended}
+use Rattle.cgs_divide.specs.AutoreductionRun.{minimal_members, autoreduction}
 use Rattle.cgs_divide.proofs.MinimalLemmas.{each_kept}
 use Rattle.cgs_divide.proofs.AutoreductionRunLemmas.{autoreduction_divides}
 
@@ -16,7 +17,7 @@ module _ (ring : Ring) (r : IsRing ring) (G : List (List Term)) (monic : AreMoni
   kept_polys : ArePolys ring (minimal_members ring G)
   kept_polys = each_kept ring G (omega (arith, two)) monic (IsPoly ring) polys
 
-  pub autoreduction_polys : (R : List (List Term)) (units left : ℕ) → autoreduction ring G units ≡ done R left → ArePolys ring R
+  pub autoreduction_polys : (R : List (List Term)) (units left : ℕ) → autoreduction ring G units ≡ ended R left → ArePolys ring R
   autoreduction_polys R units left e =
       let h = autoreduction_divides ring G R units left r two monic e in
       all_by_places (IsPoly ring) [] R (λ i l.

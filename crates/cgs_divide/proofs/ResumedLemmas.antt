@@ -3,11 +3,14 @@ use Rattle.std.proofs.Common.{ℕ, zero, suc, ◌≡◌, ◌-◌, Bool, true, fa
 use Rattle.std.proofs.Common.{◌≤◌, replicate, take}
 use Rattle.std.proofs.Common.{arith}
 use Rattle.std.proofs.lemmas.List.{append-nil}
+use Rattle.std.proofs.Math.Seq.{take-length}
 use Rattle.cgs_exps.specs.Monomial.{quotient}
 use Rattle.cgs_poly.specs.Ring.{Ring}
 use Rattle.cgs_poly.specs.Polynomial.{Term, term}
 use Rattle.cgs_poly.specs.Product.{multiple, leading_monomial}
-use Rattle.cgs_divide.specs.DivisionRun.{Run, done, out_of_budget, out_of_degree, first_divisor, is_too_high, less_multiple, charged, with_remainder}
+use Rattle.cgs_divide.specs.declared.division.Division.{Division}
+use Rattle.cgs_divide.specs.Ending.{Ending, ended, out_of_budget, out_of_degree, followed}
+use Rattle.cgs_divide.specs.DivisionRun.{done, keeping, first_divisor, is_too_high, less_multiple, charged, with_remainder}
 use Rattle.cgs_divide.specs.DivisionRun.{with_quotient, added_at, divided_in, divided}
 use Rattle.cgs_divide.proofs.QuotientLemmas.{added_length, zeros, zeros_length}
 
@@ -18,13 +21,11 @@ joined (q ∷ quotients) [] = []
 joined (q ∷ quotients) (m ∷ more) = (q ++ m) ∷ joined quotients more
 
 -- a run after a remainder and quotients
-abbrev pub resumed : List Term → List (List Term) → Run → Run
-resumed before quotients (done remainder more units) = done (before ++ remainder) (joined quotients more) units
-resumed before quotients (out_of_budget units) = out_of_budget units
-resumed before quotients (out_of_degree units) = out_of_degree units
+abbrev pub resumed : List Term → List (List Term) → Ending Division → Ending Division
+resumed before quotients run = followed run (λ d. done (before ++ d.remainder) (joined quotients d.quotients))
 
 -- a whole run is what was found so far, with quotients of which the first so many are kept, and the run that is left
-pub record IsResumed (whole : Run) (before : List Term) (count some : ℕ) (front : List (List Term)) (next : Run) : Type 0 where
+pub record IsResumed (whole : Ending Division) (before : List Term) (count some : ℕ) (front : List (List Term)) (next : Ending Division) : Type 0 where
   pub quotients : List (List Term)
   pub run : whole ≡ resumed before quotients next
   pub kept : front ≡ take some quotients
@@ -50,7 +51,7 @@ empty_at zero i = refl
 empty_at (suc n) zero = refl
 empty_at (suc n) (suc i) = empty_at n i
 
-pub resumed_charged : (before : List Term) (quotients : List (List Term)) (cost units : ℕ) (run : Run)
+pub resumed_charged : (before : List Term) (quotients : List (List Term)) (cost units : ℕ) (run : Ending Division)
     → resumed before quotients (charged cost units run) ≡ charged cost units (resumed before quotients run)
 resumed_charged before quotients cost units run = by_test (ltb units cost)
   where
@@ -59,10 +60,9 @@ resumed_charged before quotients cost units run = by_test (ltb units cost)
     by_test false = refl
 
 -- a term of the remainder
-pub resumed_remainder : (before : List Term) (quotients : List (List Term)) (x : Term) (run : Run)
+pub resumed_remainder : (before : List Term) (quotients : List (List Term)) (x : Term) (run : Ending Division)
     → resumed before quotients (with_remainder x run) ≡ resumed (before ++ x ∷ []) quotients run
-resumed_remainder before quotients x (done remainder more units) = let e : before ++ x ∷ remainder ≡ (before ++ x ∷ []) ++ remainder =
-    sym (append_assoc before (x ∷ []) remainder) in cc
+resumed_remainder before quotients x (ended d units) = ap (λ f. done f (joined quotients d.quotients) units) (sym (append_assoc before (x ∷ []) d.remainder))
 resumed_remainder before quotients x (out_of_budget units) = refl
 resumed_remainder before quotients x (out_of_degree units) = refl
 
@@ -75,9 +75,9 @@ joined_added zero x (q ∷ quotients) (m ∷ more) = let e : q ++ x ∷ m ≡ (q
 joined_added (suc i) x (q ∷ quotients) (m ∷ more) = ap (λ n. (q ++ m) ∷ n) (joined_added i x quotients more)
 
 -- a term of the quotient at a place
-pub resumed_quotient : (before : List Term) (quotients : List (List Term)) (i : ℕ) (x : Term) (run : Run)
+pub resumed_quotient : (before : List Term) (quotients : List (List Term)) (i : ℕ) (x : Term) (run : Ending Division)
     → resumed before quotients (with_quotient i x run) ≡ resumed before (set quotients i (get_or quotients i [] ++ x ∷ [])) run
-resumed_quotient before quotients i x (done remainder more units) = ap (λ n. done (before ++ remainder) n units) (joined_added i x quotients more)
+resumed_quotient before quotients i x (ended d units) = ap (λ n. done (before ++ d.remainder) n units) (joined_added i x quotients d.quotients)
 resumed_quotient before quotients i x (out_of_budget units) = refl
 resumed_quotient before quotients i x (out_of_degree units) = refl
 
@@ -94,22 +94,22 @@ resumed_done before quotients G units l = cc (append-nil before, joined_zeros qu
 -- nothing was found before
 
 -- a run that is done has a quotient for each divisor
-abbrev HasPlaces : ℕ → Run → Type 0
-HasPlaces n (done remainder quotients units) = length quotients ≡ n
+abbrev HasPlaces : ℕ → Ending Division → Type 0
+HasPlaces n (ended d units) = length d.quotients ≡ n
 HasPlaces n (out_of_budget units) = Unit {0}
 HasPlaces n (out_of_degree units) = Unit {0}
 
-remainder_places : (n : ℕ) (x : Term) (run : Run) → HasPlaces n run → HasPlaces n (with_remainder x run)
-remainder_places n x (done remainder quotients units) h = h
+remainder_places : (n : ℕ) (x : Term) (run : Ending Division) → HasPlaces n run → HasPlaces n (with_remainder x run)
+remainder_places n x (ended d units) h = h
 remainder_places n x (out_of_budget units) h = tt
 remainder_places n x (out_of_degree units) h = tt
 
-quotient_places : (n i : ℕ) (x : Term) (run : Run) → HasPlaces n run → HasPlaces n (with_quotient i x run)
-quotient_places n i x (done remainder quotients units) h = added_length i x quotients ∙ h
+quotient_places : (n i : ℕ) (x : Term) (run : Ending Division) → HasPlaces n run → HasPlaces n (with_quotient i x run)
+quotient_places n i x (ended d units) h = added_length i x d.quotients ∙ h
 quotient_places n i x (out_of_budget units) h = tt
 quotient_places n i x (out_of_degree units) h = tt
 
-cond_places : (n : ℕ) (b : Bool) (first second : Run) → HasPlaces n first → HasPlaces n second → HasPlaces n (cond b first second)
+cond_places : (n : ℕ) (b : Bool) (first second : Ending Division) → HasPlaces n first → HasPlaces n second → HasPlaces n (cond b first second)
 cond_places n true first second h k = h
 cond_places n false first second h k = k
 
@@ -120,10 +120,10 @@ run_places (suc n) ring G units (x ∷ f) =
     let i : ℕ = first_divisor G x.exponents in
     let g : List Term = get_or G i [] in
     let t : List ℕ = quotient x.exponents (leading_monomial g) in
-    let rest : Run = divided_in n ring G (units - length g) (less_multiple ring (x ∷ f) x.coefficient t g) in
-    let next : Run = with_quotient i (term x.coefficient t) rest in
-    let checked : Run = cond (is_too_high (multiple x.coefficient t g)) (out_of_degree (units - length g)) next in
-    let kept : Run = with_remainder x (divided_in n ring G (units - 1) f) in
+    let rest : Ending Division = divided_in n ring G (units - length g) (less_multiple ring (x ∷ f) x.coefficient t g) in
+    let next : Ending Division = with_quotient i (term x.coefficient t) rest in
+    let checked : Ending Division = cond (is_too_high (multiple x.coefficient t g)) (out_of_degree (units - length g)) next in
+    let kept : Ending Division = with_remainder x (divided_in n ring G (units - 1) f) in
     let a : HasPlaces (length G) next =
     quotient_places (length G) i (term x.coefficient t) rest (run_places n ring G (units - length g) (less_multiple ring (x ∷ f) x.coefficient t g)) in
     let b : HasPlaces (length G) checked = cond_places (length G) (is_too_high (multiple x.coefficient t g)) (out_of_degree (units - length g)) next tt a in
@@ -141,7 +141,18 @@ pub resumed_nothing : (ring : Ring) (G : List (List Term)) (units : ℕ) (f : Li
 unfolding divided
 resumed_nothing ring G units f = by_run (divided_in (suc units) ring G units f) (run_places (suc units) ring G units f)
   where
-    by_run : (run : Run) → HasPlaces (length G) run → resumed [] (zeros G) run ≡ run
-    by_run (done remainder quotients left) h = ap (λ n. done remainder n left) (zeros_joined G quotients h)
+    by_run : (run : Ending Division) → HasPlaces (length G) run → resumed [] (zeros G) run ≡ run
+    by_run (ended d left) h = ap (λ n. done d.remainder n left) (zeros_joined G d.quotients h)
+    by_run (out_of_budget left) h = refl
+    by_run (out_of_degree left) h = refl
+
+-- all quotients are kept
+
+pub keeping_all : (ring : Ring) (G : List (List Term)) (units : ℕ) (f : List Term) → keeping (length G) (divided ring G units f) ≡ divided ring G units f
+unfolding divided
+keeping_all ring G units f = by_run (divided_in (suc units) ring G units f) (run_places (suc units) ring G units f)
+  where
+    by_run : (run : Ending Division) → HasPlaces (length G) run → keeping (length G) run ≡ run
+    by_run (ended d left) h = ap (λ Q. done d.remainder Q left) (ap (λ n. take n d.quotients) (sym h) ∙ take-length d.quotients)
     by_run (out_of_budget left) h = refl
     by_run (out_of_degree left) h = refl

@@ -6,12 +6,14 @@ use Rattle.cgs_poly.specs.Ring.{Ring}
 use Rattle.cgs_poly.specs.Polynomial.{Term, term}
 use Rattle.cgs_poly.specs.Product.{multiple, leading_monomial, leading_coefficient}
 use Rattle.cgs_algebra.specs.Groebner.{AreMonic}
-use Rattle.cgs_divide.specs.DivisionRun.{Run, done, out_of_budget, out_of_degree, first_divisor, is_too_high, less_multiple, charged, with_remainder}
-use Rattle.cgs_divide.specs.DivisionRun.{with_quotient, divided_in, divided}
+use Rattle.cgs_divide.specs.declared.division.Division.{Division}
+use Rattle.cgs_divide.specs.Ending.{Ending, ended, out_of_budget, out_of_degree, followed}
+use Rattle.cgs_divide.specs.DivisionRun.{done, remainder_of, first_divisor, is_too_high, less_multiple, charged, with_remainder}
+use Rattle.cgs_divide.specs.DivisionRun.{with_quotient, added_at, divided_in, divided}
 use Rattle.cgs_divide.proofs.QuotientLemmas.{zeros}
 use Rattle.cgs_algebra.proofs.PlaceLemmas.{monic_at}
 
-charged_same : (cost units : ℕ) (a b : Run) → (cost ≤ units → a ≡ b) → charged cost units a ≡ charged cost units b
+charged_same : (cost units : ℕ) (a b : Ending Division) → (cost ≤ units → a ≡ b) → charged cost units a ≡ charged cost units b
 charged_same cost units a b h = by_test (ltb units cost) refl
   where
     by_test : (t : Bool) → ltb units cost ≡ t → cond t (out_of_budget units) a ≡ cond t (out_of_budget units) b
@@ -24,7 +26,7 @@ monic_some (x ∷ f) e = omega arith
 
 module _ (ring : Ring) (G : List (List Term)) (ok : AreMonic ring G) where
   -- the step by the divisor at a place, and the run after it
-  abbrev taken_at : ℕ → ℕ → Term → (ℕ → Run) → Run
+  abbrev taken_at : ℕ → ℕ → Term → (ℕ → Ending Division) → Ending Division
   taken_at i units x after =
       let g = get_or G i [] in
       charged (length g) units
@@ -79,22 +81,23 @@ module _ (ring : Ring) (G : List (List Term)) (ok : AreMonic ring G) where
 
 -- the units that are left
 
-abbrev pub units_left : Run → ℕ
-units_left (done remainder quotients units) = units
+abbrev pub units_left : {A : Type 0} → Ending A → ℕ
+units_left (ended x units) = units
 units_left (out_of_budget units) = units
 units_left (out_of_degree units) = units
 
-left_with_remainder : (x : Term) (run : Run) → units_left (with_remainder x run) ≡ units_left run
-left_with_remainder x (done remainder quotients units) = refl
-left_with_remainder x (out_of_budget units) = refl
-left_with_remainder x (out_of_degree units) = refl
+left_changed : {A B : Type 0} (run : Ending A) (f : A → B) → units_left (followed run (λ x. ended (f x))) ≡ units_left run
+left_changed (ended x units) f = refl
+left_changed (out_of_budget units) f = refl
+left_changed (out_of_degree units) f = refl
 
-left_with_quotient : (i : ℕ) (x : Term) (run : Run) → units_left (with_quotient i x run) ≡ units_left run
-left_with_quotient i x (done remainder quotients units) = refl
-left_with_quotient i x (out_of_budget units) = refl
-left_with_quotient i x (out_of_degree units) = refl
+left_with_remainder : (x : Term) (run : Ending Division) → units_left (with_remainder x run) ≡ units_left run
+left_with_remainder x run = left_changed {B = Division} run (λ d. record { remainder = x ∷ d.remainder; quotients = d.quotients })
 
-left_of_cond : (n : ℕ) (b : Bool) (first second : Run) → units_left first ≤ n → units_left second ≤ n → units_left (cond b first second) ≤ n
+left_with_quotient : (i : ℕ) (x : Term) (run : Ending Division) → units_left (with_quotient i x run) ≡ units_left run
+left_with_quotient i x run = left_changed {B = Division} run (λ d. record { remainder = d.remainder; quotients = added_at i x d.quotients })
+
+left_of_cond : (n : ℕ) (b : Bool) (first second : Ending Division) → units_left first ≤ n → units_left second ≤ n → units_left (cond b first second) ≤ n
 left_of_cond n true first second h k = h
 left_of_cond n false first second h k = k
 
@@ -105,10 +108,10 @@ left_in (suc n) ring G units (x ∷ f) =
     let i : ℕ = first_divisor G x.exponents in
     let g : List Term = get_or G i [] in
     let t : List ℕ = quotient x.exponents (leading_monomial g) in
-    let rest : Run = divided_in n ring G (units - length g) (less_multiple ring (x ∷ f) x.coefficient t g) in
-    let next : Run = with_quotient i (term x.coefficient t) rest in
-    let checked : Run = cond (is_too_high (multiple x.coefficient t g)) (out_of_degree (units - length g)) next in
-    let kept : Run = with_remainder x (divided_in n ring G (units - 1) f) in
+    let rest : Ending Division = divided_in n ring G (units - length g) (less_multiple ring (x ∷ f) x.coefficient t g) in
+    let next : Ending Division = with_quotient i (term x.coefficient t) rest in
+    let checked : Ending Division = cond (is_too_high (multiple x.coefficient t g)) (out_of_degree (units - length g)) next in
+    let kept : Ending Division = with_remainder x (divided_in n ring G (units - 1) f) in
     let a : units_left next ≤ units =
     omega (arith, left_with_quotient i (term x.coefficient t) rest, left_in n ring G (units - length g) (less_multiple ring (x ∷ f) x.coefficient t g)) in
     let b : units_left checked ≤ units =
@@ -118,6 +121,10 @@ left_in (suc n) ring G units (x ∷ f) =
     (left_of_cond units (ltb units (length g)) (out_of_budget units) checked (omega arith) b)
     (left_of_cond units (ltb units 1) (out_of_budget units) kept (omega arith) c)
 
-pub left_at_most : (ring : Ring) (G : List (List Term)) (units : ℕ) (f : List Term) → units_left (divided ring G units f) ≤ units
+pub left_at_most : (ring : Ring) (G : List (List Term)) (units : ℕ) (f : List Term) → units_left (remainder_of (divided ring G units f)) ≤ units
 unfolding divided
-left_at_most ring G units f = left_in (suc units) ring G units f
+left_at_most ring G units f = omega (
+  arith,
+  left_changed (divided_in (suc units) ring G units f) (λ d. d.remainder),
+  left_in (suc units) ring G units f,
+)

@@ -1,9 +1,9 @@
 -- One step of a run that a loop makes, with the remainder so far and the terms that are left.
 use Rattle.std.proofs.Common.{ℕ, zero, suc, ◌≡◌, ◌+◌, ◌-◌, ◌<◌, ◌≤◌, Bool, true, false, cond, List, [], ◌∷◌, ◌++◌, length, get_or, set, drop, Some}
-use Rattle.std.proofs.Common.{Ok, Err, refl, sym, ap, ◌∙◌, arith}
+use Rattle.std.proofs.Common.{refl, sym, ap, ◌∙◌, arith}
 use Rattle.std.proofs.lemmas.Bool.{lt-ltb, le-ltb}
 use Rattle.std.proofs.lemmas.Option.{unwrap_or-slice_get}
-use Rattle.std.specs.Prelude.{slice_get, unwrap_or, Result, IsErrAnd, IsErrOf}
+use Rattle.std.specs.Prelude.{slice_get, unwrap_or}
 use Rattle.cgs_list.proofs.ListLemmas.{drop_at}
 use Rattle.cgs_exps.specs.Monomial.{divides, quotient}
 use Rattle.cgs_poly.specs.Ring.{Ring}
@@ -13,10 +13,11 @@ use Rattle.cgs_poly.specs.declared.fault.PolyFault.{PolyFault}
 use Rattle.cgs_poly.specs.declared.fault.PolyFault.TheVariants as fault
 use Rattle.cgs_poly.specs.Product.{multiple, leading_monomial}
 use Rattle.cgs_algebra.specs.Groebner.{AreMonic, leading_monomial_at}
-use Rattle.cgs_divide.specs.declared.stop.Stop.{Stop}
 use Rattle.cgs_divide.specs.declared.stop.Stop.TheVariants as stop
 use Rattle.cgs_divide.specs.Stop.{stop_of}
-use Rattle.cgs_divide.specs.DivisionRun.{Run, out_of_budget, out_of_degree, first_divisor, is_too_high, less_multiple, charged, with_remainder, with_quotient}
+use Rattle.cgs_divide.specs.declared.division.Division.{Division}
+use Rattle.cgs_divide.specs.Ending.{Ending, out_of_budget, out_of_degree}
+use Rattle.cgs_divide.specs.DivisionRun.{first_divisor, is_too_high, less_multiple, charged, with_remainder, with_quotient}
 use Rattle.cgs_divide.specs.DivisionRun.{divided}
 use Rattle.cgs_divide.proofs.QuotientLemmas.{not_too_high, too_high}
 use Rattle.cgs_divide.proofs.RunLemmas.{divided_kept, divided_taken}
@@ -53,16 +54,16 @@ get_read xs i x d e = sym (unwrap_or-slice_get xs i d) ∙ ap (λ o. unwrap_or o
 
 -- steps that end the run, and steps that are paid
 
-charged_little : (cost units : ℕ) (run : Run) → units < cost → charged cost units run ≡ out_of_budget units
+charged_little : (cost units : ℕ) (run : Ending Division) → units < cost → charged cost units run ≡ out_of_budget units
 charged_little cost units run h = rw (lt-ltb units cost h) refl
 
-pub charged_enough : (cost units : ℕ) (run : Run) → cost ≤ units → charged cost units run ≡ run
+pub charged_enough : (cost units : ℕ) (run : Ending Division) → cost ≤ units → charged cost units run ≡ run
 charged_enough cost units run h = rw (le-ltb units cost h) refl
 
 module _ (ring : Ring) (G : List (List Term)) (ok : AreMonic ring G) (Q : List (List Term)) (units : ℕ)
     (before rest : List Term) (x : Term) (here : slice_get rest 0 ≡ Some x) where
   -- the run that is left behind the remainder so far
-  abbrev left_run : Run
+  abbrev left_run : Ending Division
   left_run = resumed before Q (divided ring G units rest)
 
   first_is : rest ≡ x ∷ drop 1 rest
@@ -71,7 +72,7 @@ module _ (ring : Ring) (G : List (List Term)) (ok : AreMonic ring G) (Q : List (
   -- no lead divides the term
   left_kept : length G ≤ first_divisor G x.exponents → left_run ≡ charged 1 units (resumed (before ++ x ∷ []) Q (divided ring G (units - 1) (drop 1 rest)))
   left_kept none =
-      let next : Run = divided ring G (units - 1) (drop 1 rest) in
+      let next : Ending Division = divided ring G (units - 1) (drop 1 rest) in
       let a = ap (λ f. resumed before Q (divided ring G units f)) first_is in
       let b = ap (λ r. resumed before Q r) (divided_kept ring G ok units x (drop 1 rest) none) in
       let c = resumed_charged before Q 1 units (with_remainder x next) in
@@ -88,7 +89,7 @@ module _ (ring : Ring) (G : List (List Term)) (ok : AreMonic ring G) (Q : List (
     t = quotient x.exponents (leading_monomial g)
 
     -- the step by a divisor on terms that are left, and the run after it
-    abbrev taken : List Term → List Term → Run
+    abbrev taken : List Term → List Term → Ending Division
     taken f d =
         let m = quotient x.exponents (leading_monomial d) in
         charged (length d) units
@@ -130,9 +131,9 @@ lengths_append p (y ∷ f) c m h l = (h.0, lengths_append p f c m h.1 l)
 
 -- the stops
 
-pub same_stop : {T : Type 0} (r : Result T Stop) (s e : Stop) → IsErrAnd r (λ k. k ≡ s) → IsErrOf r e → s ≡ e
-same_stop (Ok x) s e h k = absurd (cc)
-same_stop (Err y) s e h k = cc
+pub no_budget : (k : PolyFault) → ¬ (stop_of k ≡ stop.Budget)
+no_budget fault.Degree e = cc
+no_budget fault.OutOfMemory e = cc
 
 pub fault_of_degree : (k : PolyFault) → stop_of k ≡ stop.Degree → k ≡ fault.Degree
 fault_of_degree fault.Degree e = refl

@@ -7,7 +7,10 @@ use Rattle.cgs_list.proofs.ListLemmas.{drop_at}
 use Rattle.cgs_poly.specs.Ring.{Ring}
 use Rattle.cgs_poly.specs.Polynomial.{Term}
 use Rattle.cgs_algebra.specs.Groebner.{AreMonic}
-use Rattle.cgs_divide.specs.DivisionRun.{Run, done, out_of_budget, out_of_degree, first_divisor, undivided, with_remainder, divided}
+use Rattle.cgs_divide.specs.declared.division.Division.{Division}
+use Rattle.cgs_divide.specs.Ending.{Ending}
+use Rattle.cgs_divide.specs.DivisionRun.{first_divisor, undivided, with_remainder, divided}
+use Rattle.cgs_divide.proofs.EndingLemmas.{followed_twice}
 use Rattle.cgs_divide.proofs.QuotientLemmas.{zeros}
 use Rattle.cgs_divide.proofs.RunLemmas.{divided_kept}
 use Rattle.cgs_divide.proofs.ResumedLemmas.{resumed, resumed_nothing}
@@ -48,15 +51,13 @@ module _ (G : List (List Term)) where
 
 -- the run after them
 
-kept_first : (before : List Term) (quotients : List (List Term)) (x : Term) (run : Run)
+kept_first : (before : List Term) (quotients : List (List Term)) (x : Term) (run : Ending Division)
     → with_remainder x (resumed before quotients run) ≡ resumed (x ∷ before) quotients run
-kept_first before quotients x (done remainder more units) = refl
-kept_first before quotients x (out_of_budget units) = refl
-kept_first before quotients x (out_of_degree units) = refl
+kept_first before quotients x run = followed_twice run _ _
 
 module _ (ring : Ring) (G : List (List Term)) (ok : AreMonic ring G) where
   -- the run behind so many terms
-  abbrev behind : ℕ → List Term → ℕ → Run
+  abbrev behind : ℕ → List Term → ℕ → Ending Division
   behind units f k = resumed (take k f) (zeros G) (divided ring G (units - k) (drop k f))
 
   nothing_before : (units : ℕ) (f : List Term) → divided ring G units f ≡ behind units f 0

@@ -1,21 +1,24 @@
 -- The division of a polynomial by a list of polynomials (Cox, Little, O'Shea, chapter 2, section 3), with units of work and a limit on degrees.
-use Rattle.std.specs.Prelude.{ℕ, zero, suc, ◌≡◌, ◌-◌, Bool, false, cond, ◌||◌, List, [], ◌∷◌, ◌++◌, length, slice_index_or, nat_lt, map}
+use Rattle.std.specs.Prelude.{ℕ, zero, suc, ◌-◌, Bool, false, cond, ◌||◌, List, [], ◌∷◌, ◌++◌, length, slice_index_or, nat_lt, map, take}
 use Rattle.cgs_exps.specs.Monomial.{degree, divides, quotient}
 use Rattle.cgs_exps.specs.Mask.{mask}
 use Rattle.cgs_poly.specs.Ring.{Ring}
 use Rattle.cgs_poly.specs.Polynomial.{Term, term, canonical, greatest_degree}
 use Rattle.cgs_poly.specs.Product.{multiple, leading_monomial}
+use Rattle.cgs_divide.specs.declared.division.Division.{Division}
+use Rattle.cgs_divide.specs.Ending.{Ending, ended, out_of_budget, out_of_degree, followed}
 
--- how a run ends: with a remainder, a quotient for each divisor and the units left, or without them and with the units left
-pub data Run : Type 0 where
-  done : List Term → List (List Term) → ℕ → Run
-  out_of_budget : ℕ → Run
-  out_of_degree : ℕ → Run
+-- a division that ends with a remainder, a quotient for each divisor and the units left
+abbrev pub done : List Term → List (List Term) → ℕ → Ending Division
+done remainder quotients units = ended (record { remainder = remainder; quotients = quotients }) units
 
--- the run ends with this remainder and so many units left, whatever its quotients are
-pub record LeavesRemainder (run : Run) (remainder : List Term) (units : ℕ) : Type 0 where
-  pub quotients : List (List Term)
-  pub ends : run ≡ done remainder quotients units
+-- the run of the remainder alone
+abbrev pub remainder_of : Ending Division → Ending (List Term)
+remainder_of run = followed run (λ d. ended d.remainder)
+
+-- a run with the first so many quotients alone
+abbrev pub keeping : ℕ → Ending Division → Ending Division
+keeping count run = followed run (λ d. done d.remainder (take count d.quotients))
 
 -- the place of the first polynomial whose lead divides m, or the number of polynomials
 abbrev pub first_divisor : List (List Term) → List ℕ → ℕ
@@ -42,14 +45,12 @@ abbrev pub less_multiple : Ring → List Term → ℕ → List ℕ → List Term
 less_multiple ring f c t g = canonical ring (f ++ multiple (ring.modulus - c) t g)
 
 -- a step that costs more than the units that are left ends the run, and takes none
-abbrev pub charged : ℕ → ℕ → Run → Run
+abbrev pub charged : ℕ → ℕ → Ending Division → Ending Division
 charged cost units run = cond (nat_lt units cost) (out_of_budget units) run
 
 -- the same with a term at the front of the remainder
-abbrev pub with_remainder : Term → Run → Run
-with_remainder x (done remainder quotients units) = done (x ∷ remainder) quotients units
-with_remainder x (out_of_budget units) = out_of_budget units
-with_remainder x (out_of_degree units) = out_of_degree units
+abbrev pub with_remainder : Term → Ending Division → Ending Division
+with_remainder x run = followed run (λ d. done (x ∷ d.remainder) d.quotients)
 
 -- a term at the front of the quotient at a place
 abbrev pub added_at : ℕ → Term → List (List Term) → List (List Term)
@@ -58,14 +59,12 @@ added_at zero x (q ∷ quotients) = (x ∷ q) ∷ quotients
 added_at (suc i) x (q ∷ quotients) = q ∷ added_at i x quotients
 
 -- the same with a term added to the quotient at a place
-abbrev pub with_quotient : ℕ → Term → Run → Run
-with_quotient i x (done remainder quotients units) = done remainder (added_at i x quotients) units
-with_quotient i x (out_of_budget units) = out_of_budget units
-with_quotient i x (out_of_degree units) = out_of_degree units
+abbrev pub with_quotient : ℕ → Term → Ending Division → Ending Division
+with_quotient i x run = followed run (λ d. done d.remainder (added_at i x d.quotients))
 
 -- the run in at most so many steps. The first divisor whose lead divides the leading term takes it: this costs the divisor's number of terms.
 -- If none does, it goes to the remainder: this costs 1
-abbrev pub divided_in : ℕ → Ring → List (List Term) → ℕ → List Term → Run
+abbrev pub divided_in : ℕ → Ring → List (List Term) → ℕ → List Term → Ending Division
 divided_in zero ring G units f = out_of_budget units
 divided_in (suc steps) ring G units [] = done [] (map (λ g. []) G) units
 divided_in (suc steps) ring G units (x ∷ f) =
@@ -79,5 +78,5 @@ divided_in (suc steps) ring G units (x ∷ f) =
     (charged 1 units (with_remainder x (divided_in steps ring G (units - 1) f)))
 
 -- the division run of f by G: since each step costs a unit, it has at most one step more than units
-unfoldable pub divided : Ring → List (List Term) → ℕ → List Term → Run
+unfoldable pub divided : Ring → List (List Term) → ℕ → List Term → Ending Division
 divided ring G units f = divided_in (suc units) ring G units f

@@ -4,10 +4,10 @@ use Rattle.cgs_poly.specs.Ring.{Ring}
 use Rattle.cgs_poly.specs.Polynomial.{Term, IsRing, IsCanonical}
 use Rattle.cgs_poly.specs.Product.{leading_monomial, leading_coefficient}
 use Rattle.cgs_algebra.specs.Groebner.{AreMonic, IsGroebnerBasis, IsMinimal, IsReduced, IsAscending, SomeLeadDivides}
+use Rattle.cgs_divide.specs.Ending.{ended}
 use Rattle.cgs_divide.specs.DivisionRun.{divided, done}
 use Rattle.cgs_divide.specs.Division.{HasDivided}
 use Rattle.cgs_divide.specs.AutoreductionRun.{autoreduction}
-use Rattle.cgs_divide.specs.AutoreductionRun as list
 use Rattle.cgs_divide.specs.Autoreduction.{IsDividedAt}
 
 -- what a run by monic polynomials that ends with a remainder has found
@@ -35,4 +35,4 @@ AutoreductionReduces =
 abbrev pub AutoreductionRunReduces : Type 0
 AutoreductionRunReduces =
     (ring : Ring) (G F R : List (List Term)) (units left : ℕ) → IsRing ring → AreMonic ring G → IsGroebnerBasis ring G F
-    → autoreduction ring G units ≡ list.done R left → IsReduced ring R F × IsAscending ring R
+    → autoreduction ring G units ≡ ended R left → IsReduced ring R F × IsAscending ring R

@@ -1,3 +1,4 @@
+pub mod Ending
 pub mod DivisionRun
 pub mod Division
 pub mod Rest

@@ -1,6 +1,6 @@
 //! The division of a polynomial by a list of polynomials.
 
-ghost use Rattle.std.specs.Prelude.{◌≡◌, ◌<◌, ◌≤◌, ◌-◌, ◌++◌, ℕ, [], ◌∷◌, length, slice_index_or, slice_set, take, drop, map, replicate, IsTrue, IsNone, IfSome, IfOk, OnOk, OnErr, IsErrOf, IfErr};
+ghost use Rattle.std.specs.Prelude.{◌≡◌, ◌<◌, ◌≤◌, ◌-◌, ◌++◌, ℕ, [], ◌∷◌, length, slice_index_or, slice_set, drop, map, replicate, IsTrue, IsNone, IfSome, IfOk, OnOk, OnErr, IsErrOf, IfErr};
 ghost use Rattle.std.specs.List.{AllByRecursion};
 ghost use Rattle.cgs_exps.specs.Monomial as monomial;
 ghost use Rattle.cgs_exps.specs.Mask as masks;
@@ -8,7 +8,8 @@ ghost use Rattle.cgs_poly.specs.Polynomial.{IsRing, IsPoly, HasLowDegrees, place
 ghost use Rattle.cgs_poly.specs.Product.{leading_monomial, multiple};
 ghost use Rattle.cgs_poly.specs.Draft.{HaveLength};
 ghost use Rattle.cgs_algebra.specs.Groebner.{AreMonic};
-ghost use Rattle.cgs_divide.specs.DivisionRun.{divided, done, out_of_budget, out_of_degree, lead_mask, LeavesRemainder};
+ghost use Rattle.cgs_divide.specs.Ending.{EndsAs};
+ghost use Rattle.cgs_divide.specs.DivisionRun.{divided, remainder_of, keeping, lead_mask};
 ghost use Rattle.cgs_divide.specs.DivisionRun as run;
 ghost use Rattle.cgs_divide.specs.Division.{HasDivided, IsRemainder};
 ghost use Rattle.cgs_divide.specs.Tops.{top_behind_lead};
@@ -43,12 +44,10 @@ pub fn divide(
     requires poly { IsPoly ring.now f.now }
     requires monic { AreMonic ring.now divisors.now }
     requires divisors { ArePolys ring.now divisors.now }
-    ensures ok { IfOk result (λ d. divided ring.now divisors.now fuel.old f.now ≡ done d.remainder d.quotients fuel.new) }
+    ensures ends { EndsAs (divided ring.now divisors.now fuel.old f.now) fuel.new result }
     ensures found { IfOk result (λ d. HasDivided ring.now divisors.now f.now d.remainder d.quotients) }
     ensures remainder { IfOk result (λ d. IsPoly ring.now d.remainder) }
     ensures quotients { IfOk result (λ d. ArePolys ring.now d.quotients) }
-    ensures budget { IsErrOf result Stop.Budget → divided ring.now divisors.now fuel.old f.now ≡ out_of_budget fuel.new }
-    ensures degree { IsErrOf result Stop.Degree → divided ring.now divisors.now fuel.old f.now ≡ out_of_degree fuel.new }
     ensures units { fuel.new ≤ fuel.old }
 {
     divide_keeping(alloc, ring, f, divisors, divisors.len(), fuel)
@@ -67,11 +66,9 @@ pub fn remainder(
     requires poly { IsPoly ring.now f.now }
     requires monic { AreMonic ring.now divisors.now }
     requires divisors { ArePolys ring.now divisors.now }
-    ensures ok { IfOk result (λ r. LeavesRemainder (divided ring.now divisors.now fuel.old f.now) r fuel.new) }
+    ensures ends { EndsAs (remainder_of (divided ring.now divisors.now fuel.old f.now)) fuel.new result }
     ensures found { IfOk result (λ r. IsRemainder ring.now divisors.now f.now r) }
     ensures poly { IfOk result (λ r. IsPoly ring.now r) }
-    ensures budget { IsErrOf result Stop.Budget → divided ring.now divisors.now fuel.old f.now ≡ out_of_budget fuel.new }
-    ensures degree { IsErrOf result Stop.Degree → divided ring.now divisors.now fuel.old f.now ≡ out_of_degree fuel.new }
     ensures units { fuel.new ≤ fuel.old }
 {
     let Division { remainder, .. } = divide_keeping(alloc, ring, f, divisors, 0, fuel)?;
@@ -92,9 +89,7 @@ fn divide_keeping(
     requires monic { AreMonic ring.now divisors.now }
     requires divisors { ArePolys ring.now divisors.now }
     requires kept { kept ≤ length divisors.now }
-    ensures ok { IfOk result (λ d. (e : LeavesRemainder (divided ring.now divisors.now fuel.old f.now) d.remainder fuel.new) × (d.quotients ≡ take kept e.quotients)) }
-    ensures budget { IsErrOf result Stop.Budget → divided ring.now divisors.now fuel.old f.now ≡ out_of_budget fuel.new }
-    ensures degree { IsErrOf result Stop.Degree → divided ring.now divisors.now fuel.old f.now ≡ out_of_degree fuel.new }
+    ensures ends { EndsAs (keeping kept (divided ring.now divisors.now fuel.old f.now)) fuel.new result }
     ensures units { fuel.new ≤ fuel.old }
 {
     let mut quotients = zeros(alloc, kept)?;

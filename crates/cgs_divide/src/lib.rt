@@ -4,7 +4,7 @@
 //! remainder, that no lead of a divisor divides a monomial of the remainder, and that whatever f is below, the remainder
 //! and all multiples are below too. `remainder` is the same run for callers that throw the quotients away.
 //! Below it stand polynomials (cgs_poly) and the ideals that they generate (cgs_algebra).
-//! Read first `divide`, then `divided` (specs/DivisionRun) and `HasDivided` (specs/Division).
+//! Read first `divide`, then `EndsAs` (specs/Ending), `divided` (specs/DivisionRun) and `HasDivided` (specs/Division).
 #![tactic(auto)]
 
 mod autoreduction;
@@ -17,8 +17,8 @@ mod tops;
 pub use autoreduction::autoreduce;
 pub use division::{Division, divide, remainder, spend};
 pub use laws::{
-    autoreduction_reduces, autoreduction_run_reduces, division_divides, division_examples,
-    division_keeps_lead,
+    autoreduction_examples, autoreduction_reduces, autoreduction_run_reduces, calls_answer_runs,
+    division_divides, division_examples, division_keeps_lead,
 };
 pub use stop::Stop;
 

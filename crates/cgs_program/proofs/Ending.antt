@@ -7,7 +7,7 @@ use Rattle.std.proofs.KnownBytes.{Keeps-refl, Consumes-nil, Consumes-kept}
 use Rattle.cgs_io.specs.Seen.{Seen}
 use Rattle.cgs_board.specs.declared.event.Event.{Event}
 use Rattle.cgs_board.specs.History.{IsComplete}
-use Rattle.cgs_divide.specs.AutoreductionRun.{ListRun, done, out_of_budget, out_of_degree}
+use Rattle.cgs_divide.specs.Ending.{Ending, ended, out_of_budget, out_of_degree}
 use Rattle.cgs_basis.specs.BasisRun.{basis_run}
 use Rattle.cgs_poly.specs.Polynomial.{Term}
 use Rattle.cgs_discover.specs.Refutation.{refuted, extended}
@@ -47,8 +47,8 @@ IsWritten end = Unit {0}
 along : (a b : Status) → a ≡ b → IsWritten b → IsWritten a
 along a b e w = subst IsWritten (sym e) w
 
-basis_written : (problem : Problem) (run : ListRun) → IsWritten (basis_answer problem run).end
-basis_written problem (done basis left) = tt
+basis_written : (problem : Problem) (run : Ending (List (List Term))) → IsWritten (basis_answer problem run).end
+basis_written problem (ended basis left) = tt
 basis_written problem (out_of_budget left) = tt
 basis_written problem (out_of_degree left) = tt
 

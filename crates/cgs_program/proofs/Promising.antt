@@ -6,7 +6,7 @@ use Rattle.std.specs.Io.KnownBytes.{Keeps, Appends}
 use Rattle.cgs_io.specs.Seen.{Seen}
 use Rattle.cgs_poly.specs.Polynomial.{Term, IsPoly, IsCanonical}
 use Rattle.cgs_poly.specs.Parameters.{IsCondition}
-use Rattle.cgs_divide.specs.AutoreductionRun.{ListRun, done, out_of_budget, out_of_degree}
+use Rattle.cgs_divide.specs.Ending.{Ending, ended, out_of_budget, out_of_degree}
 use Rattle.cgs_algebra.specs.Groebner.{IsReduced, IsAscending}
 use Rattle.cgs_basis.specs.BasisRun.{basis_run}
 use Rattle.cgs_basis.proofs.BasisLemmas.{basis_reduced}
@@ -159,10 +159,11 @@ record IsFoundBasis (problem : Problem) (text : List ℕ) : Type 0 where
   ascending : IsAscending problem.ring basis
   printed : text ≡ basis_text problem basis
 
-basis_found : (problem : Problem) (units : ℕ) (text : List ℕ) (end : Status) (run : ListRun) → basis_run problem.ring (generators_of problem) units ≡ run
+basis_found : (problem : Problem) (units : ℕ) (text : List ℕ) (end : Status) (run : Ending (List (List Term)))
+    → basis_run problem.ring (generators_of problem) units ≡ run
     → IsProblem problem
     → end ≡ status.Done → IsThe (basis_answer problem run) text end → IsFoundBasis problem text
-basis_found problem units text end (done basis left) e p z a =
+basis_found problem units text end (ended basis left) e p z a =
     let found = basis_reduced problem.ring (generators_of problem) basis units left p.ring (generators_canonical problem p) e in
     record { basis = basis; reduced = found.0; ascending = found.1; printed = a.0 }
 basis_found problem units text end (out_of_budget left) e p z a = absurd (let no : status.Done ≡ status.Partial = sym z ∙ a.1 in cc)

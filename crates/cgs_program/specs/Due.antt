@@ -2,7 +2,7 @@
 use Rattle.std.specs.Prelude.{◌≡◌, ◌==◌, ◌||◌, if◌then◌else◌, ℕ, Bool, true, false, List, ◌++◌, length, codes, Option, Some, None, Result, Ok, Err}
 use Rattle.std.specs.List.{list_any}
 use Rattle.cgs_poly.specs.Polynomial.{Term}
-use Rattle.cgs_divide.specs.AutoreductionRun.{ListRun, done, out_of_budget, out_of_degree}
+use Rattle.cgs_divide.specs.Ending.{Ending, ended, out_of_budget, out_of_degree}
 use Rattle.cgs_basis.specs.BasisRun.{basis_run}
 use Rattle.cgs_entry.specs.declared.entry.Cause.TheVariants.{Budget, Degree}
 use Rattle.cgs_entry.specs.declared.entry.Entry.{Entry}
@@ -78,8 +78,8 @@ abbrev pub generators_of : Problem → List (List Term)
 generators_of problem = problem.polys ++ problem.zero
 
 -- what `basis` answers where the run ends so
-abbrev pub basis_answer : Problem → ListRun → Answer
-basis_answer problem (done basis left) = answer (basis_text problem basis) status.Done
+abbrev pub basis_answer : Problem → Ending (List (List Term)) → Answer
+basis_answer problem (ended basis left) = answer (basis_text problem basis) status.Done
 basis_answer problem (out_of_budget left) = answer (refusal_text Budget) status.Partial
 basis_answer problem (out_of_degree left) = answer (refusal_text Degree) status.Partial
 

@@ -1,5 +1,5 @@
 -- The emptiness run tells whether the conditions contradict each other.
-use Rattle.std.proofs.Common.{ℕ, ◌≡◌, ◌<◌, ◌↔◌, inr, Bool, true, false, cond, IsTrue, List, [], ◌∷◌, ◌++◌, replicate, refl, sym, ◌∙◌}
+use Rattle.std.proofs.Common.{ℕ, ◌≡◌, ◌<◌, ◌↔◌, inr, Bool, true, IsTrue, List, [], ◌∷◌, ◌++◌, replicate, refl, sym, ◌∙◌}
 use Rattle.std.proofs.Common.{subst, arith}
 use Rattle.std.specs.List.{AllByRecursion}
 use Rattle.cgs_field.specs.Prime.{IsField}
@@ -19,13 +19,12 @@ use Rattle.cgs_divide.specs.DivisionRun.{is_too_high}
 use Rattle.cgs_algebra.specs.Specialisation.{IsParametric}
 use Rattle.cgs_basis.specs.BasisRun.{basis_run}
 use Rattle.cgs_basis.proofs.BasisLemmas.{basis_reduced}
-use Rattle.cgs_divide.specs.AutoreductionRun.{ListRun}
-use Rattle.cgs_divide.specs.AutoreductionRun as list
-use Rattle.cgs_radical.specs.EmptinessRun.{Ending, ended, out_of_degree, followed, BasisRun, y_ring, with_y, y_times_less_one, products_remainder, is_one_alone}
-use Rattle.cgs_radical.specs.EmptinessRun.{contradiction_run, found, buchberger}
+use Rattle.cgs_divide.specs.Ending.{ended, followed}
+use Rattle.cgs_divide.proofs.EndingLemmas.{ended_same, has_followed, past_degree}
+use Rattle.cgs_radical.specs.EmptinessRun.{BasisRun, y_ring, with_y, y_times_less_one, products_remainder, is_one_alone, contradiction_run}
 use Rattle.cgs_radical.specs.Laws.{FindsBases, product_of, RunsDecide, EmptyIsContradiction}
 use Rattle.cgs_radical.proofs.CongruenceLemmas.{AreCongruent, congruent_back, congruent_member}
-use Rattle.cgs_radical.proofs.ProductRunLemmas.{has_followed, ended_same, product_of_ring, one_times, products_same, products_canonical}
+use Rattle.cgs_radical.proofs.ProductRunLemmas.{product_of_ring, one_times, products_same, products_canonical}
 use Rattle.cgs_radical.proofs.ContradictionLemmas.{one_alone_is_member, y_canonical, y_congruent, one_of_zero}
 use Rattle.cgs_list.proofs.ListLemmas.{all_weaker, all_push}
 
@@ -91,11 +90,6 @@ module _ (ring : Ring) (field : IsField ring.modulus) (some : ring.variables ≡
   basis_canonical : AllByRecursion (IsCanonical ring) (B ++ z ∷ [])
   basis_canonical = all_push (IsCanonical ring) B z reduced.monic.canonical (y_canonical ring pos some r hr)
 
--- a run that has a result did not end before
-not_high : {A : Type 0} (b : Bool) (m : ℕ) (run : Ending A) (result : A) (left : ℕ) → cond b (out_of_degree m) run ≡ ended result left → run ≡ ended result left
-not_high true m run result left e = absurd (cc)
-not_high false m run result left e = e
-
 module _ (basis : BasisRun) (ring : Ring) (finds : FindsBases basis) (r : IsRing ring) (some : ring.variables ≡ 1) (E B : List (List Term))
     (p : List Term) (canonical : AllByRecursion (IsCanonical ring) E) (reduced : IsReduced ring B E)
     (hp : IsOfRing ring p) where
@@ -111,16 +105,16 @@ module _ (basis : BasisRun) (ring : Ring) (finds : FindsBases basis) (r : IsRing
   ended_by : (q : List Term) (units left : ℕ) (empty : Bool) → IsCanonical ring q → AreCongruent ring E p q
       → contradiction_run basis ring B q units ≡ ended empty left → IsTrue empty ↔ Contradicted
   ended_by [] units left empty h same e =
-      let t : true ≡ empty = ended_same true empty units left e in
+      let t : true ≡ empty = (ended_same true empty units left e).0 in
       let m = congruent_member ring E positive p [] same (zero_member ring E positive) in
       (λ x. one_of_zero ring positive some E p hp m, λ x. sym t)
   ended_by (x ∷ q) units left empty h same e =
       let hr = canonical_of_ring ring (x ∷ q) h in
       let z : List Term = y_times_less_one ring (x ∷ q) in
-      let run = not_high (is_too_high (multiple 1 (1 ∷ replicate ring.parameters 0) (x ∷ q))) units
-      (followed (basis ring units (B ++ z ∷ [])) (λ G. ended (is_one_alone ring G))) empty left e in
-      let f = has_followed (basis ring units (B ++ z ∷ [])) (λ G. ended (is_one_alone ring G)) empty left run in
-      let s : is_one_alone ring f.first ≡ empty = ended_same (is_one_alone ring f.first) empty f.units left f.then in
+      let run = past_degree (is_too_high (multiple 1 (1 ∷ replicate ring.parameters 0) (x ∷ q))) units
+      (followed (basis ring (B ++ z ∷ []) units) (λ G. ended (is_one_alone ring G))) empty left e in
+      let f = has_followed (basis ring (B ++ z ∷ []) units) (λ G. ended (is_one_alone ring G)) empty left run in
+      let s : is_one_alone ring f.first ≡ empty = (ended_same (is_one_alone ring f.first) empty f.units left f.then).0 in
       let k = finds.reduced ring units f.units (B ++ z ∷ []) f.first r (basis_canonical ring field some E B p (x ∷ q) canonical reduced hp hr same) f.ran in
       let t = one_alone_is_member ring field.two (B ++ z ∷ []) f.first k in (
         λ h. from_basis ring field some E B p (x ∷ q) canonical reduced hp hr same (one ring) (t.0 (s ∙ h)),
@@ -137,7 +131,7 @@ runs_decide basis finds ring E N units left empty r he hn e =
     let M : List (List Term) = with_y ring N in
     let hf = with_y_canonical ring E he in
     let hm = all_of_ring (y_ring ring) (with_y ring N) (with_y_canonical ring N hn) in
-    let a = has_followed (basis (y_ring ring) units (with_y ring E)) _ empty left e in
+    let a = has_followed (basis (y_ring ring) (with_y ring E) units) _ empty left e in
     let B : List (List Term) = a.first in
     let reduced = finds.reduced (y_ring ring) units a.units (with_y ring E) a.first ry hf a.ran in
     let b = has_followed (products_remainder (y_ring ring) a.first (with_y ring N) (one (y_ring ring)) a.units)
@@ -153,16 +147,8 @@ runs_decide basis finds ring E N units left empty r he hn e =
 
 -- Buchberger's algorithm finds bases
 
-found_done : (run : ListRun) (G : List (List Term)) (left : ℕ) → found run ≡ ended G left → run ≡ list.done G left
-found_done (list.done G' units') G left e = cc
-found_done (list.out_of_budget units') G left e = absurd (cc)
-found_done (list.out_of_degree units') G left e = absurd (cc)
-
-buchberger_finds : FindsBases buchberger
-buchberger_finds = record {
-  reduced = λ ring units left F G r ok e.
-      (basis_reduced ring F G units left r ok (found_done (basis_run ring F units) G left e)).0;
-}
+finds_bases : FindsBases basis_run
+finds_bases = record { reduced = λ ring units left F G r ok e. (basis_reduced ring F G units left r ok e).0 }
 
 pub empty_is_contradiction : EmptyIsContradiction
-empty_is_contradiction = runs_decide buchberger buchberger_finds
+empty_is_contradiction = runs_decide basis_run finds_bases

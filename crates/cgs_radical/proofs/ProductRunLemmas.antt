@@ -1,5 +1,5 @@
 -- The remainder of a product is congruent to it.
-use Rattle.std.proofs.Common.{ℕ, ◌≡◌, ◌-◌, ◌<◌, Bool, true, false, cond, List, [], ◌∷◌, replicate, nat_lt, refl, ◌∙◌, subst}
+use Rattle.std.proofs.Common.{ℕ, ◌≡◌, ◌-◌, ◌<◌, List, [], ◌∷◌, replicate, nat_lt, refl, ◌∙◌, subst}
 use Rattle.std.specs.List.{AllByRecursion}
 use Rattle.std.proofs.lemmas.List.{append-nil, length-replicate}
 use Rattle.cgs_poly.specs.Ring.{Ring}
@@ -12,45 +12,15 @@ use Rattle.cgs_poly.proofs.MultipleLemmas.{multiple_one}
 use Rattle.cgs_algebra.specs.Combination.{combined, IsMember}
 use Rattle.cgs_algebra.specs.Groebner.{AreMonic}
 use Rattle.cgs_algebra.proofs.MemberLemmas.{member_from_alike, member_of_members, products_comm}
-use Rattle.cgs_divide.specs.DivisionRun.{Run, done, divided, is_too_high}
-use Rattle.cgs_divide.specs.DivisionRun as division
+use Rattle.cgs_divide.specs.Ending.{ended}
+use Rattle.cgs_divide.specs.DivisionRun.{is_too_high}
 use Rattle.cgs_divide.specs.Division.{HasDivided}
-use Rattle.cgs_divide.proofs.DivisionLemmas.{divided_divides}
+use Rattle.cgs_divide.proofs.DivisionLemmas.{left_divided}
+use Rattle.cgs_divide.proofs.EndingLemmas.{ended_same, has_followed, past_budget, past_degree}
 use Rattle.cgs_divide.proofs.QuotientCombinationLemmas.{summands_of, division_combination, division_sum}
-use Rattle.cgs_radical.specs.EmptinessRun.{Ending, ended, out_of_budget, out_of_degree, followed, remainder_of, product_cost, product_remainder}
-use Rattle.cgs_radical.specs.EmptinessRun.{products_remainder}
+use Rattle.cgs_radical.specs.EmptinessRun.{product_cost, product_remainder, products_remainder}
 use Rattle.cgs_radical.specs.Laws.{product_of}
 use Rattle.cgs_radical.proofs.CongruenceLemmas.{AreCongruent, alike_congruent, congruent_trans, congruent_product}
-
--- how runs end
-
--- a run whose next ends with a result ended with one itself
-pub record HasFollowed {A B : Type 0} (run : Ending A) (next : A → ℕ → Ending B) (result : B) (left : ℕ) : Type 0 where
-  pub first : A
-  pub units : ℕ
-  pub ran : run ≡ ended first units
-  pub then : next first units ≡ ended result left
-
-pub has_followed : {A B : Type 0} (run : Ending A) (next : A → ℕ → Ending B) (result : B) (left : ℕ)
-    → followed run next ≡ ended result left → HasFollowed run next result left
-has_followed (ended a units) next result left e = record { first = a; units = units; ran = refl; then = e }
-has_followed (out_of_budget units) next result left e = absurd (cc)
-has_followed (out_of_degree units) next result left e = absurd (cc)
-
-pub ended_same : {A : Type 0} (a b : A) (m n : ℕ) → ended a m ≡ ended b n → a ≡ b
-ended_same a b m n e = cc
-
-divided_remainder : (run : Run) (r : List Term) (left : ℕ) → remainder_of run ≡ ended r left → (quotients : List (List Term)) × (run ≡ done r quotients left)
-divided_remainder (done s q u) r left e = let p : s ≡ r = cc in let k : u ≡ left = cc in (q, cc)
-divided_remainder (division.out_of_budget u) r left e = absurd (cc)
-divided_remainder (division.out_of_degree u) r left e = absurd (cc)
-
--- a step that has a result was paid, and was not too high
-product_ran : (a b : Bool) (m n : ℕ) (run : Ending (List Term)) (r : List Term) (left : ℕ)
-    → cond a (out_of_budget m) (cond b (out_of_degree n) run) ≡ ended r left → run ≡ ended r left
-product_ran true b m n run r left e = absurd (cc)
-product_ran false true m n run r left e = absurd (cc)
-product_ran false false m n run r left e = e
 
 -- products
 
@@ -102,17 +72,16 @@ module _ (ring : Ring) (F B : List (List Term)) (pos : 0 < ring.modulus) (ok : A
   product_same : (q n : List Term) (units left : ℕ) (r : List Term) → IsOfRing ring q → IsOfRing ring n
       → product_remainder ring B q n units ≡ ended r left → IsRemainder (all_products q n) r
   product_same q n units left r hq hn e =
-      let run = product_ran (nat_lt units (product_cost q n)) (is_too_high (all_products q n)) units (units - product_cost q n)
-      (remainder_of (divided ring B (units - product_cost q n) (canonical ring (all_products q n)))) r left e in
-      let d = divided_remainder (divided ring B (units - product_cost q n) (canonical ring (all_products q n))) r left run in
+      let paid = past_budget (nat_lt units (product_cost q n)) units _ r left e in
+      let run = past_degree (is_too_high (all_products q n)) (units - product_cost q n) _ r left paid in
       let hp = products_of_ring ring q n hq hn in
-      let k = divided_divides ring B pos ok (units - product_cost q n) left (canonical ring (all_products q n))
-      r d.0 (is_canonical ring (all_products q n) pos hp) d.1 in
+      let k = left_divided ring B (units - product_cost q n) left (canonical ring (all_products q n)) r pos ok
+      (is_canonical ring (all_products q n) pos hp) run in
       record {
         same = congruent_trans ring F pos (all_products q n) (canonical ring (all_products q n)) r
             (alike_congruent ring F pos (all_products q n) (canonical ring (all_products q n)) (alike_back (canonical_alike ring (all_products q n) pos hp)))
-            (divided_same (canonical ring (all_products q n)) r d.0 k);
-        canonical = k.canonical_remainder;
+            (divided_same (canonical ring (all_products q n)) r k.quotients k.divided);
+        canonical = k.divided.canonical_remainder;
       }
 
   -- the remainder that is found at last is congruent to the whole product
@@ -120,13 +89,13 @@ module _ (ring : Ring) (F B : List (List Term)) (pos : 0 < ring.modulus) (ok : A
       → IsCanonical ring q → products_remainder ring B N q units ≡ ended r left
       → Same (all_products q (product_of ring N)) r
   products_same N [] r units left h k e =
-      alike_congruent ring F pos [] r (subst (λ s. Alike ring.modulus [] s) (ended_same [] r units left (nothing N e)) (alike_same ring.modulus []))
+      alike_congruent ring F pos [] r (subst (λ s. Alike ring.modulus [] s) ((ended_same [] r units left (nothing N e)).0) (alike_same ring.modulus []))
     where
       nothing : (N : List (List Term)) → products_remainder ring B N [] units ≡ ended r left → ended [] units ≡ ended r left
       nothing [] e = e
       nothing (n ∷ N) e = e
   products_same [] (x ∷ q) r units left h k e =
-      let s : x ∷ q ≡ r = ended_same (x ∷ q) r units left e in
+      let s : x ∷ q ≡ r = (ended_same (x ∷ q) r units left e).0 in
       let of_ring = canonical_of_ring ring (x ∷ q) k in
       alike_congruent ring F pos (all_products (x ∷ q) (one ring)) r
       (subst (λ f. Alike ring.modulus (all_products (x ∷ q) (one ring)) f) s
@@ -142,9 +111,9 @@ module _ (ring : Ring) (F B : List (List Term)) (pos : 0 < ring.modulus) (ok : A
   -- and canonical
   pub products_canonical : (N : List (List Term)) (q r : List Term) (units left : ℕ) → AllByRecursion (IsOfRing ring) N
       → IsCanonical ring q → products_remainder ring B N q units ≡ ended r left → IsCanonical ring r
-  products_canonical [] [] r units left h k e = subst (λ f. IsCanonical ring f) (ended_same [] r units left e) tt
-  products_canonical (n ∷ N) [] r units left h k e = subst (λ f. IsCanonical ring f) (ended_same [] r units left e) tt
-  products_canonical [] (x ∷ q) r units left h k e = subst (λ f. IsCanonical ring f) (ended_same (x ∷ q) r units left e) k
+  products_canonical [] [] r units left h k e = subst (λ f. IsCanonical ring f) (ended_same [] r units left e).0 tt
+  products_canonical (n ∷ N) [] r units left h k e = subst (λ f. IsCanonical ring f) (ended_same [] r units left e).0 tt
+  products_canonical [] (x ∷ q) r units left h k e = subst (λ f. IsCanonical ring f) (ended_same (x ∷ q) r units left e).0 k
   products_canonical (n ∷ N) (x ∷ q) r units left h k e =
       let f = has_followed (product_remainder ring B (x ∷ q) n units) (products_remainder ring B N) r left e in
       let a = product_same (x ∷ q) n units f.units f.first (canonical_of_ring ring (x ∷ q) k) h.0 f.ran in

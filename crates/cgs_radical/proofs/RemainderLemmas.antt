@@ -6,9 +6,9 @@ use Rattle.std.proofs.lemmas.Bool.{le-ltb}
 use Rattle.cgs_poly.specs.Ring.{Ring}
 use Rattle.cgs_poly.specs.Polynomial.{Term, canonical}
 use Rattle.cgs_poly.specs.Product.{all_products}
-use Rattle.cgs_divide.specs.DivisionRun.{Run, divided, is_too_high}
-use Rattle.cgs_radical.specs.EmptinessRun.{Ending, ended, out_of_budget, out_of_degree, followed, remainder_of, product_cost, product_remainder}
-use Rattle.cgs_radical.specs.EmptinessRun.{products_remainder}
+use Rattle.cgs_divide.specs.Ending.{ended, out_of_degree, followed}
+use Rattle.cgs_divide.specs.DivisionRun.{divided, remainder_of, is_too_high}
+use Rattle.cgs_radical.specs.EmptinessRun.{product_cost, product_remainder, products_remainder}
 
 module _ (ring : Ring) (B : List (List Term)) (q n : List Term) (units : ℕ) where
   -- it is paid, and a monomial of it is too high
@@ -17,13 +17,10 @@ module _ (ring : Ring) (B : List (List Term)) (q n : List Term) (units : ℕ) wh
   too_high_product left l e h = rw (le-ltb units (product_cost q n) l, h, e) refl
 
   -- it is divided
-  pub divided_product : (left : ℕ) (f : List Term) (run : Run) → product_cost q n ≤ units → left ≡ units - product_cost q n
+  pub divided_product : (left : ℕ) (f : List Term) → product_cost q n ≤ units → left ≡ units - product_cost q n
       → is_too_high (all_products q n) ≡ false → f ≡ canonical ring (all_products q n)
-      → divided ring B left f ≡ run → product_remainder ring B q n units ≡ remainder_of run
-  divided_product left f run l e h p d =
-      let s : divided ring B (units - product_cost q n) (canonical ring (all_products q n)) ≡ run =
-      ap (λ k. divided ring B k (canonical ring (all_products q n))) (sym e) ∙ (ap (divided ring B left) (sym p) ∙ d) in
-      rw (le-ltb units (product_cost q n) l, h, s) refl
+      → product_remainder ring B q n units ≡ remainder_of (divided ring B left f)
+  divided_product left f l e h p = rw (le-ltb units (product_cost q n) l, h, p, e) refl
 
 -- factor by factor
 
@@ -43,18 +40,7 @@ one_factor ring B N [] n units some = absurd (some refl)
 one_factor ring B N (x ∷ q) n units some = refl
 
 module _ (ring : Ring) (B N : List (List Term)) (i : ℕ) (n q : List Term) (units : ℕ) (get : slice_get N i ≡ Some n) (some : ¬ (q ≡ [])) where
-  factor_is : (run : Ending (List Term)) → product_remainder ring B q n units ≡ run
-      → products_remainder ring B (drop i N) q units ≡ followed run (products_remainder ring B (drop (i + 1) N))
-  factor_is run e =
-      ap (λ L. products_remainder ring B L q units) (drop_at N i n get)
-      ∙ (one_factor ring B (drop (i + 1) N) q n units some ∙ ap (λ k. followed k (products_remainder ring B (drop (i + 1) N))) e)
-
-  pub factor_ended : (r : List Term) (left : ℕ) → product_remainder ring B q n units ≡ ended r left
-      → products_remainder ring B (drop (i + 1) N) r left ≡ products_remainder ring B (drop i N) q units
-  factor_ended r left e = sym (factor_is (ended r left) e)
-
-  pub factor_unpaid : (left : ℕ) → product_remainder ring B q n units ≡ out_of_budget left → products_remainder ring B (drop i N) q units ≡ out_of_budget left
-  factor_unpaid left e = factor_is (out_of_budget left) e
-
-  pub factor_high : (left : ℕ) → product_remainder ring B q n units ≡ out_of_degree left → products_remainder ring B (drop i N) q units ≡ out_of_degree left
-  factor_high left e = factor_is (out_of_degree left) e
+  pub factor_step : products_remainder ring B (drop i N) q units
+      ≡ followed (product_remainder ring B q n units) (products_remainder ring B (drop (i + 1) N))
+  factor_step =
+      ap (λ L. products_remainder ring B L q units) (drop_at N i n get) ∙ one_factor ring B (drop (i + 1) N) q n units some

@@ -17,9 +17,9 @@ use Rattle.cgs_poly.specs.Parameters.{IsCondition}
 use Rattle.cgs_list.proofs.ListLemmas.{take_next}
 use Rattle.cgs_algebra.specs.Specialisation.{IsParametric}
 use Rattle.cgs_divide.specs.DivisionRun.{is_too_high}
-use Rattle.cgs_divide.specs.AutoreductionRun.{ListRun, done}
+use Rattle.cgs_divide.specs.Ending.{Ending, ended, out_of_degree, followed}
 use Rattle.cgs_basis.specs.BasisRun.{basis_run}
-use Rattle.cgs_radical.specs.EmptinessRun.{Ending, ended, out_of_degree, followed, found, buchberger, y_ring, with_y, y_times_less_one, products_remainder}
+use Rattle.cgs_radical.specs.EmptinessRun.{y_ring, with_y, y_times_less_one, products_remainder}
 use Rattle.cgs_radical.specs.EmptinessRun.{is_one_alone, contradiction_run, emptiness_run}
 
 -- lists
@@ -34,46 +34,43 @@ conditions_parametric ring (f ∷ E) h = (record { canonical = h.0.poly.canonica
 -- the test of y*q - 1
 
 module _ (ring : Ring) (B : List (List Term)) (units : ℕ) where
-  pub contradiction_high : (q : List Term) → ¬ (q ≡ []) → is_too_high (multiple 1 (1 ∷ replicate ring.parameters 0) q) ≡ true
-      → contradiction_run buchberger ring B q units ≡ out_of_degree units
-  contradiction_high [] some e = absurd (some refl)
-  contradiction_high (x ∷ q) some e =
-      ap (λ b. cond b (out_of_degree units)
-      (followed (found (basis_run ring (B ++ y_times_less_one ring (x ∷ q) ∷ []) units)) (λ G. ended (is_one_alone ring G)))) e
+  -- the run of the basis of B and y*q - 1
+  abbrev by_basis : List Term → Ending Bool
+  by_basis q = followed (basis_run ring (B ++ y_times_less_one ring q ∷ []) units) (λ G. ended (is_one_alone ring G))
 
-  pub contradiction_found : (q : List Term) (run : ListRun) → ¬ (q ≡ []) → is_too_high (multiple 1 (1 ∷ replicate ring.parameters 0) q) ≡ false
-      → basis_run ring (B ++ y_times_less_one ring q ∷ []) units ≡ run
-      → contradiction_run buchberger ring B q units ≡ followed (found run) (λ G. ended (is_one_alone ring G))
-  contradiction_found [] run some e k = absurd (some refl)
-  contradiction_found (x ∷ q) run some e k =
-      ap (λ b. cond b (out_of_degree units)
-      (followed (found (basis_run ring (B ++ y_times_less_one ring (x ∷ q) ∷ []) units)) (λ G. ended (is_one_alone ring G)))) e
-      ∙ ap (λ r. followed (found r) (λ G. ended (is_one_alone ring G))) k
+  by_degree : (q : List Term) (b : Bool) → ¬ (q ≡ []) → is_too_high (multiple 1 (1 ∷ replicate ring.parameters 0) q) ≡ b
+      → contradiction_run basis_run ring B q units ≡ cond b (out_of_degree units) (by_basis q)
+  by_degree [] b some e = absurd (some refl)
+  by_degree (x ∷ q) b some e = ap (λ b. cond b (out_of_degree units) (by_basis (x ∷ q))) e
+
+  pub contradiction_high : (q : List Term) → ¬ (q ≡ []) → is_too_high (multiple 1 (1 ∷ replicate ring.parameters 0) q) ≡ true
+      → contradiction_run basis_run ring B q units ≡ out_of_degree units
+  contradiction_high q some e = by_degree q true some e
+
+  pub contradiction_found : (q : List Term) → ¬ (q ≡ []) → is_too_high (multiple 1 (1 ∷ replicate ring.parameters 0) q) ≡ false
+      → contradiction_run basis_run ring B q units
+      ≡ followed (basis_run ring (B ++ y_times_less_one ring q ∷ []) units) (λ G. ended (is_one_alone ring G))
+  contradiction_found q some e = by_degree q false some e
 
 -- the parts of the run, in the ring Y above the parameters
 
 module _ (ring Y : Ring) (E N zs ns : List (List Term)) (start : List Term) (units : ℕ) (y : Y ≡ y_ring ring)
     (z : zs ≡ with_y ring E) (n : ns ≡ with_y ring N) (o : start ≡ one Y) where
-  abbrev after : List (List Term) → ℕ → Ending Bool
-  after B left = followed (products_remainder (y_ring ring) B (with_y ring N) (one (y_ring ring)) left) (contradiction_run buchberger (y_ring ring) B)
+  -- what follows the basis of E, and what follows the product of N
+  abbrev pub after_basis : List (List Term) → ℕ → Ending Bool
+  after_basis B left = followed (products_remainder Y B ns start left) (contradiction_run basis_run Y B)
 
-  basis_ends : (run : ListRun) → basis_run Y zs units ≡ run → emptiness_run ring E N units ≡ followed (found run) after
-  basis_ends run e =
-      let k : basis_run (y_ring ring) (with_y ring E) units ≡ run = cc (y, z, e) in
-      ap (λ r. followed (found r) after) k
+  pub basis_part : emptiness_run ring E N units ≡ followed (basis_run Y zs units) after_basis
+  basis_part = rw (o, n, z, y) refl
 
-  product_ends : (B : List (List Term)) (left : ℕ) (run : Ending (List Term))
-      → basis_run Y zs units ≡ done B left → products_remainder Y B ns start left ≡ run
-      → emptiness_run ring E N units ≡ followed run (contradiction_run buchberger (y_ring ring) B)
-  product_ends B left run e k =
-      let s : start ≡ one (y_ring ring) = o ∙ ap one y in
-      let m : products_remainder (y_ring ring) B (with_y ring N) (one (y_ring ring)) left ≡ run = cc (y, n, s, k) in
-      basis_ends (done B left) e ∙ ap (λ r. followed r (contradiction_run buchberger (y_ring ring) B)) m
+  pub product_part : (B : List (List Term)) (left : ℕ) → basis_run Y zs units ≡ ended B left
+      → emptiness_run ring E N units ≡ followed (products_remainder Y B ns start left) (contradiction_run basis_run Y B)
+  product_part B left e = basis_part ∙ ap (λ r. followed r after_basis) e
 
-  pub contradiction_ends : (B : List (List Term)) (q : List Term) (left last : ℕ) (run : Ending Bool)
-      → basis_run Y zs units ≡ done B left → products_remainder Y B ns start left ≡ ended q last
-      → contradiction_run buchberger Y B q last ≡ run → emptiness_run ring E N units ≡ run
-  contradiction_ends B q left last run e k c = product_ends B left (ended q last) e k ∙ ap (λ r. contradiction_run buchberger r B q last) (sym y) ∙ c
+  pub contradiction_part : (B : List (List Term)) (q : List Term) (left last : ℕ)
+      → basis_run Y zs units ≡ ended B left → products_remainder Y B ns start left ≡ ended q last
+      → emptiness_run ring E N units ≡ contradiction_run basis_run Y B q last
+  contradiction_part B q left last e k = product_part B left e ∙ ap (λ r. followed r (contradiction_run basis_run Y B)) k
 
 same_tests : (a b : Bool) → (a ≡ true → b ≡ true) → (b ≡ true → a ≡ true) → a ≡ b
 same_tests true true f g = refl

@@ -6,28 +6,14 @@ use Rattle.cgs_poly.specs.Ring.{Ring}
 use Rattle.cgs_poly.specs.Polynomial.{Term, term, places, one, canonical}
 use Rattle.cgs_poly.specs.Product.{multiple, all_products}
 use Rattle.cgs_poly.specs.Recast.{recast}
-use Rattle.cgs_divide.specs.DivisionRun.{Run, done, divided, is_too_high}
-use Rattle.cgs_divide.specs.DivisionRun as division
-use Rattle.cgs_divide.specs.AutoreductionRun.{ListRun}
-use Rattle.cgs_divide.specs.AutoreductionRun as list
+use Rattle.cgs_divide.specs.Ending.{Ending, ended, out_of_budget, out_of_degree, followed}
+use Rattle.cgs_divide.specs.DivisionRun.{divided, remainder_of, is_too_high}
 use Rattle.cgs_basis.specs.BasisRun.{basis_run}
 use Rattle.cgs_poly.specs.Same.{same_poly}
 
--- how a run ends: with its result and the units left, or without it and with the units left
-pub data Ending (A : Type 0) : Type 0 where
-  ended : A → ℕ → Ending A
-  out_of_budget : ℕ → Ending A
-  out_of_degree : ℕ → Ending A
-
--- the next run in the units left, if the first has a result
-abbrev pub followed : {A B : Type 0} → Ending A → (A → ℕ → Ending B) → Ending B
-followed (ended result units) next = next result units
-followed (out_of_budget units) next = out_of_budget units
-followed (out_of_degree units) next = out_of_degree units
-
 -- a run that finds the reduced Gröbner basis of a list in some units
 abbrev pub BasisRun : Type 0
-BasisRun = Ring → ℕ → List (List Term) → Ending (List (List Term))
+BasisRun = Ring → List (List Term) → ℕ → Ending (List (List Term))
 
 -- one variable y above the parameters
 abbrev pub y_ring : Ring → Ring
@@ -40,12 +26,6 @@ with_y ring F = map (recast ring (y_ring ring)) F
 -- y*q - 1, for q in the parameters
 abbrev pub y_times_less_one : Ring → List Term → List Term
 y_times_less_one ring q = canonical ring (multiple 1 (1 ∷ replicate ring.parameters 0) q ++ term (ring.modulus - 1) (replicate (places ring) 0) ∷ [])
-
--- the remainder of a division run
-abbrev pub remainder_of : Run → Ending (List Term)
-remainder_of (done remainder quotients units) = ended remainder units
-remainder_of (division.out_of_budget units) = out_of_budget units
-remainder_of (division.out_of_degree units) = out_of_degree units
 
 -- the cost of a product: the number of products of terms, at least 1
 abbrev pub product_cost : List Term → List Term → ℕ
@@ -73,24 +53,14 @@ abbrev pub contradiction_run : BasisRun → Ring → List (List Term) → List T
 contradiction_run basis ring B [] units = ended true units
 contradiction_run basis ring B (x ∷ q) units =
     cond (is_too_high (multiple 1 (1 ∷ replicate ring.parameters 0) (x ∷ q))) (out_of_degree units)
-    (followed (basis ring units (B ++ y_times_less_one ring (x ∷ q) ∷ [])) (λ G. ended (is_one_alone ring G)))
+    (followed (basis ring (B ++ y_times_less_one ring (x ∷ q) ∷ []) units) (λ G. ended (is_one_alone ring G)))
 
 -- the basis of E, the remainder of the product of N by it, and the test of the two
 abbrev pub emptiness_by : BasisRun → Ring → List (List Term) → List (List Term) → ℕ → Ending Bool
 emptiness_by basis ring E N units =
-    followed (basis (y_ring ring) units (with_y ring E)) (λ B left.
+    followed (basis (y_ring ring) (with_y ring E) units) (λ B left.
     followed (products_remainder (y_ring ring) B (with_y ring N) (one (y_ring ring)) left) (contradiction_run basis (y_ring ring) B))
 
--- what a basis run ends with
-abbrev pub found : ListRun → Ending (List (List Term))
-found (list.done G units) = ended G units
-found (list.out_of_budget units) = out_of_budget units
-found (list.out_of_degree units) = out_of_degree units
-
--- Buchberger's algorithm as such a run
-abbrev pub buchberger : BasisRun
-buchberger ring units F = found (basis_run ring F units)
-
--- the emptiness run
+-- the emptiness run, by Buchberger's algorithm
 abbrev pub emptiness_run : Ring → List (List Term) → List (List Term) → ℕ → Ending Bool
-emptiness_run ring E N units = emptiness_by buchberger ring E N units
+emptiness_run ring E N units = emptiness_by basis_run ring E N units

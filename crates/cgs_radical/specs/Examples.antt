@@ -2,7 +2,8 @@
 use Rattle.std.specs.Prelude.{◌≡◌, true, false, List, [], ◌∷◌}
 use Rattle.cgs_poly.specs.Polynomial.{Term, term}
 use Rattle.cgs_entry.specs.Examples.{seven, only_a, one}
-use Rattle.cgs_radical.specs.EmptinessRun.{ended, out_of_budget, out_of_degree, emptiness_run}
+use Rattle.cgs_divide.specs.Ending.{ended, out_of_budget, out_of_degree}
+use Rattle.cgs_radical.specs.EmptinessRun.{emptiness_run}
 
 -- a - 1 and a^2 - a
 abbrev pub a_less_one : List Term

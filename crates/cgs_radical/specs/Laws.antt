@@ -9,12 +9,14 @@ use Rattle.cgs_algebra.specs.Groebner.{IsReduced}
 use Rattle.cgs_point.specs.Points.{IsPoint}
 use Rattle.cgs_algebra.specs.Specialisation.{IsParametric}
 use Rattle.cgs_entry.specs.Conditions.{IsInRegion}
-use Rattle.cgs_radical.specs.EmptinessRun.{ended, BasisRun, y_ring, with_y, y_times_less_one, emptiness_by, buchberger, emptiness_run}
+use Rattle.cgs_divide.specs.Ending.{ended}
+use Rattle.cgs_basis.specs.BasisRun.{basis_run}
+use Rattle.cgs_radical.specs.EmptinessRun.{BasisRun, y_ring, with_y, y_times_less_one, emptiness_by, emptiness_run}
 
 -- the run finds reduced Gröbner bases
 pub record FindsBases (basis : BasisRun) : Type 0 where
   pub reduced : (ring : Ring) (units left : ℕ) (F G : List (List Term)) → IsRing ring
-      → AllByRecursion (IsCanonical ring) F → basis ring units F ≡ ended G left → IsReduced ring G F
+      → AllByRecursion (IsCanonical ring) F → basis ring F units ≡ ended G left → IsReduced ring G F
 
 -- the product of a list
 abbrev pub product_of : Ring → List (List Term) → List Term
@@ -40,7 +42,7 @@ RunsDecide basis =
     → emptiness_by basis ring E N units ≡ ended empty left → IsTrue empty ↔ Contradict ring E N
 
 abbrev pub EmptyIsContradiction : Type 0
-EmptyIsContradiction = RunsDecide buchberger
+EmptyIsContradiction = RunsDecide basis_run
 
 -- where it ends with true, the region has no point
 abbrev pub EmptyHasNoPoint : Type 0

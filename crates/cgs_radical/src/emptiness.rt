@@ -7,7 +7,9 @@ ghost use Rattle.cgs_poly.specs.Product.{multiple};
 ghost use Rattle.cgs_poly.specs.Parameters.{IsCondition};
 ghost use Rattle.cgs_point.specs.Points.{IsPoint};
 ghost use Rattle.cgs_entry.specs.Conditions.{IsInRegion};
-ghost use Rattle.cgs_radical.specs.EmptinessRun.{ended, out_of_budget, out_of_degree, with_y, y_ring, y_times_less_one, buchberger, contradiction_run, emptiness_run};
+ghost use Rattle.cgs_divide.specs.Ending.{EndsAs};
+ghost use Rattle.cgs_basis.specs.BasisRun.{basis_run};
+ghost use Rattle.cgs_radical.specs.EmptinessRun.{with_y, y_ring, y_times_less_one, contradiction_run, emptiness_run};
 ghost use Rattle.cgs_radical.specs.Laws.{Contradict};
 
 use crate::product::products_remainder;
@@ -30,11 +32,9 @@ pub fn test_empty(
     requires ring { IsRing ring.now }
     requires zero { AllByRecursion (IsCondition ring.now) conditions.now.zero }
     requires nonzero { AllByRecursion (IsCondition ring.now) conditions.now.nonzero }
-    ensures ok { IfOk result (λ empty. emptiness_run ring.now conditions.now.zero conditions.now.nonzero fuel.old ≡ ended empty fuel.new) }
+    ensures ends { EndsAs (emptiness_run ring.now conditions.now.zero conditions.now.nonzero fuel.old) fuel.new result }
     ensures exact { IfOk result (λ empty. IsTrue empty ↔ Contradict ring.now conditions.now.zero conditions.now.nonzero) }
     ensures no_point { IfOk result (λ empty. IsTrue empty → (a : List ℕ) → IsPoint ring.now a → ¬ (IsInRegion ring.now conditions.now.zero conditions.now.nonzero a)) }
-    ensures budget { IsErrOf result Stop.Budget → emptiness_run ring.now conditions.now.zero conditions.now.nonzero fuel.old ≡ out_of_budget fuel.new }
-    ensures degree { IsErrOf result Stop.Degree → emptiness_run ring.now conditions.now.zero conditions.now.nonzero fuel.old ≡ out_of_degree fuel.new }
     ensures units { fuel.new ≤ fuel.old }
 {
     let above = with_y(ring);
@@ -103,9 +103,7 @@ fn contradicts(
     requires one_variable { ring.now.variables ≡ 1 }
     requires basis { ArePolys ring.now basis }
     requires poly { IsPoly ring.now q.now }
-    ensures ok { IfOk result (λ empty. contradiction_run buchberger ring.now basis q.now fuel.old ≡ ended empty fuel.new) }
-    ensures budget { IsErrOf result Stop.Budget → contradiction_run buchberger ring.now basis q.now fuel.old ≡ out_of_budget fuel.new }
-    ensures degree { IsErrOf result Stop.Degree → contradiction_run buchberger ring.now basis q.now fuel.old ≡ out_of_degree fuel.new }
+    ensures ends { EndsAs (contradiction_run basis_run ring.now basis q.now fuel.old) fuel.new result }
     ensures units { fuel.new ≤ fuel.old }
 {
     if q.len() == 0 {

@@ -1,9 +1,10 @@
 //! The product of the polynomials that must not be 0, reduced by a basis after each factor.
 
-ghost use Rattle.std.specs.Prelude.{◌≡◌, ◌<◌, ◌≤◌, ◌-◌, ◌*◌, max, IfOk, IfErr, OnOk, OnErr, IsErrOf};
+ghost use Rattle.std.specs.Prelude.{◌≡◌, ◌<◌, ◌≤◌, ◌-◌, ◌*◌, max, IfOk, IfErr, OnOk, OnErr};
 ghost use Rattle.cgs_poly.specs.Polynomial.{IsRing, IsPoly, ArePolys};
 ghost use Rattle.cgs_algebra.specs.Groebner.{AreMonic};
-ghost use Rattle.cgs_radical.specs.EmptinessRun.{ended, out_of_budget, out_of_degree, product_remainder, products_remainder};
+ghost use Rattle.cgs_divide.specs.Ending.{EndsAs};
+ghost use Rattle.cgs_radical.specs.EmptinessRun.{product_remainder, products_remainder};
 
 use cgs_divide::{Stop, remainder};
 use cgs_poly::{Poly, PolyList, Ring};
@@ -24,10 +25,8 @@ pub(crate) fn product_remainder(
     requires basis { ArePolys ring.now basis.now }
     requires first { IsPoly ring.now q.now }
     requires second { IsPoly ring.now n.now }
-    ensures ok { IfOk result (λ r. product_remainder ring.now basis.now q.now n.now fuel.old ≡ ended r fuel.new) }
+    ensures ends { EndsAs (product_remainder ring.now basis.now q.now n.now fuel.old) fuel.new result }
     ensures poly { IfOk result (λ r. IsPoly ring.now r) }
-    ensures budget { IsErrOf result Stop.Budget → product_remainder ring.now basis.now q.now n.now fuel.old ≡ out_of_budget fuel.new }
-    ensures degree { IsErrOf result Stop.Degree → product_remainder ring.now basis.now q.now n.now fuel.old ≡ out_of_degree fuel.new }
     ensures units { fuel.new ≤ fuel.old }
 {
     spend_product(q.len(), n.len(), fuel)?;
@@ -50,10 +49,8 @@ pub(crate) fn products_remainder(
     requires basis { ArePolys ring.now basis.now }
     requires factors { ArePolys ring.now factors.now }
     requires start { IsPoly ring.now start }
-    ensures ok { IfOk result (λ r. products_remainder ring.now basis.now factors.now start fuel.old ≡ ended r fuel.new) }
+    ensures ends { EndsAs (products_remainder ring.now basis.now factors.now start fuel.old) fuel.new result }
     ensures poly { IfOk result (λ r. IsPoly ring.now r) }
-    ensures budget { IsErrOf result Stop.Budget → products_remainder ring.now basis.now factors.now start fuel.old ≡ out_of_budget fuel.new }
-    ensures degree { IsErrOf result Stop.Degree → products_remainder ring.now basis.now factors.now start fuel.old ≡ out_of_degree fuel.new }
     ensures units { fuel.new ≤ fuel.old }
 {
     let mut q = start;

@@ -14,7 +14,8 @@ use Rattle.cgs_algebra.specs.Stability.{other_members}
 use Rattle.cgs_entry.specs.declared.entry.Cause.TheVariants.{Depth}
 use Rattle.cgs_entry.specs.declared.entry.EntryKind.TheVariants.{Solved, Refused}
 use Rattle.cgs_dickson.specs.Dickson.{minimal_dickson}
-use Rattle.cgs_radical.specs.EmptinessRun.{Ending, is_one_alone, emptiness_run}
+use Rattle.cgs_divide.specs.Ending.{Ending}
+use Rattle.cgs_radical.specs.EmptinessRun.{is_one_alone, emptiness_run}
 use Rattle.cgs_split.specs.Nodes.{children_of}
 use Rattle.cgs_split.specs.NodeRun.{Node, settled, is_too_deep, with_basis, after_emptiness, node_of}
 

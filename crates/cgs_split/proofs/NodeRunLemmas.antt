@@ -11,8 +11,7 @@ use Rattle.cgs_algebra.specs.Specialisation.{IsParametric}
 use Rattle.cgs_poly.specs.Parameters.{has_no_variables}
 use Rattle.cgs_algebra.specs.Stability.{other_members}
 use Rattle.cgs_algebra.proofs.DicksonLemmas.{other_each}
-use Rattle.cgs_divide.specs.AutoreductionRun.{ListRun, done}
-use Rattle.cgs_divide.specs.AutoreductionRun as list
+use Rattle.cgs_divide.specs.Ending.{Ending, ended, out_of_budget, out_of_degree}
 use Rattle.cgs_basis.specs.BasisRun.{basis_run}
 use Rattle.cgs_basis.proofs.BasisLemmas.{basis_reduced}
 use Rattle.cgs_entry.specs.declared.entry.Cause.TheVariants.{Budget, Degree, Depth}
@@ -20,7 +19,7 @@ use Rattle.cgs_entry.specs.declared.entry.EntryKind.TheVariants.{Solved, Refused
 use Rattle.cgs_dickson.specs.Dickson.{minimal_dickson}
 use Rattle.cgs_dickson.specs.Laws.{AreNonzero}
 use Rattle.cgs_dickson.proofs.DicksonLemmas.{filter_ascends, minimal_dickson_is_basis}
-use Rattle.cgs_radical.specs.EmptinessRun.{Ending, ended, out_of_budget, out_of_degree, is_one_alone, emptiness_run}
+use Rattle.cgs_radical.specs.EmptinessRun.{is_one_alone, emptiness_run}
 use Rattle.cgs_radical.proofs.PointLemmas.{empty_has_no_point}
 use Rattle.cgs_split.specs.declared.kind.BranchKind.{BranchKind}
 use Rattle.cgs_split.specs.declared.kind.BranchKind.TheVariants.{Split, Main, Unit as UnitKind}
@@ -96,8 +95,8 @@ module _ (branch : Case) (path : List ℕ) (r : IsRing branch.ring) (ok : IsBran
       (λ a point. empty_has_no_point branch.ring branch.zero branch.nonzero branch.limits.budget units a r ok.zero ok.nonzero e point)
 
   -- a basis run that ended
-  based : branch.kind ≡ Split → (units left : ℕ) (G : List (List Term)) → basis_run branch.ring (branch.polys ++ branch.zero) units ≡ done G left
-      → IsOne (after_basis branch path (done G left))
+  based : branch.kind ≡ Split → (units left : ℕ) (G : List (List Term)) → basis_run branch.ring (branch.polys ++ branch.zero) units ≡ ended G left
+      → IsOne (after_basis branch path (ended G left))
   based split units left G e = by_one (is_one_alone branch.ring G) refl
     where
       reduced : IsReduced branch.ring G (branch.polys ++ branch.zero) × IsAscending branch.ring G
@@ -114,11 +113,11 @@ module _ (branch : Case) (path : List ℕ) (r : IsRing branch.ring) (ok : IsBran
       by_one false t =
           divided split G (minimal_dickson branch.ring (other_members branch.ring G)) (reduced_has_basis branch.ring branch G reduced.0 reduced.1)
 
-  split_node : branch.kind ≡ Split → (units : ℕ) (run : ListRun) → basis_run branch.ring (branch.polys ++ branch.zero) units ≡ run
+  split_node : branch.kind ≡ Split → (units : ℕ) (run : Ending (List (List Term))) → basis_run branch.ring (branch.polys ++ branch.zero) units ≡ run
       → IsOne (after_basis branch path run)
-  split_node split units (done G left) e = based split units left G e
-  split_node split units (list.out_of_budget left) e = refused split Budget
-  split_node split units (list.out_of_degree left) e = refused split Degree
+  split_node split units (ended G left) e = based split units left G e
+  split_node split units (out_of_budget left) e = refused split Budget
+  split_node split units (out_of_degree left) e = refused split Degree
 
   run_node : (run : Ending Bool) → emptiness_run branch.ring branch.zero branch.nonzero branch.limits.budget ≡ run → IsOne (after_emptiness branch path run)
   run_node (ended true units) e = empty (no_point units e)

@@ -6,8 +6,7 @@ use Rattle.cgs_list.proofs.ListLemmas.{all_append}
 use Rattle.cgs_poly.specs.Ring.{Ring}
 use Rattle.cgs_poly.specs.Polynomial.{Term, IsRing, IsPoly, one, ArePolys}
 use Rattle.cgs_algebra.specs.Stability.{parametric_members, other_members}
-use Rattle.cgs_divide.specs.AutoreductionRun.{ListRun, done}
-use Rattle.cgs_divide.specs.AutoreductionRun as list
+use Rattle.cgs_divide.specs.Ending.{Ending, ended, out_of_budget, out_of_degree}
 use Rattle.cgs_basis.specs.BasisRun.{basis_run}
 use Rattle.cgs_basis.proofs.LowLemmas.{basis_polys}
 use Rattle.cgs_entry.specs.declared.entry.Cause.{Cause}
@@ -18,7 +17,7 @@ use Rattle.cgs_poly.specs.Parameters.{IsCondition}
 use Rattle.cgs_entry.specs.Conditions.{with_member, with_members}
 use Rattle.cgs_entry.specs.Entries.{IsFound, IsEntry}
 use Rattle.cgs_dickson.specs.Dickson.{minimal_dickson, coefficient_list}
-use Rattle.cgs_radical.specs.EmptinessRun.{Ending, ended, out_of_budget, out_of_degree, is_one_alone, emptiness_run}
+use Rattle.cgs_radical.specs.EmptinessRun.{is_one_alone, emptiness_run}
 use Rattle.cgs_board.specs.Tree.{each_from, preorder_to, preorder, entry_at, entry_of, entries_of}
 use Rattle.cgs_split.specs.declared.kind.BranchKind.{BranchKind}
 use Rattle.cgs_split.specs.declared.kind.BranchKind.TheVariants.{Split, Main}
@@ -130,8 +129,9 @@ module _ (branch : Case) (path : List ℕ) (h : IsPrepared branch.ring branch.ze
   settled_over : (kind : EntryKind) → IsFound own kind → IsNodeOver own (settled branch path kind)
   settled_over kind found = (record { zero = h.zero; nonzero = h.nonzero; found = found }, tt)
 
-  basis_over : (units : ℕ) (run : ListRun) → basis_run own (branch.polys ++ branch.zero) units ≡ run → IsNodeOver own (after_basis branch path run)
-  basis_over units (done G left) e = by_one (is_one_alone own G)
+  basis_over : (units : ℕ) (run : Ending (List (List Term))) → basis_run own (branch.polys ++ branch.zero) units ≡ run
+      → IsNodeOver own (after_basis branch path run)
+  basis_over units (ended G left) e = by_one (is_one_alone own G)
     where
       generators : ArePolys own (branch.polys ++ branch.zero)
       generators = all_append (IsPoly own) branch.polys branch.zero h.polys (conditions_polys own h.valid branch.zero h.zero)
@@ -148,8 +148,8 @@ module _ (branch : Case) (path : List ℕ) (h : IsPrepared branch.ring branch.ze
           → IsNodeOver own (cond b (settled branch path (Solved G true)) (None, children_of own branch G (minimal_dickson own (other_members own G))))
       by_one true = settled_over (Solved G true) basis
       by_one false = (tt, children_cases G (minimal_dickson own (other_members own G)) basis (dickson_polys own h.valid (other_members own G) others))
-  basis_over units (list.out_of_budget left) e = settled_over (Refused Budget) tt
-  basis_over units (list.out_of_degree left) e = settled_over (Refused Degree) tt
+  basis_over units (out_of_budget left) e = settled_over (Refused Budget) tt
+  basis_over units (out_of_degree left) e = settled_over (Refused Degree) tt
 
   by_kind_over : (kind : BranchKind) (x y : Node) → IsNodeOver own x → IsNodeOver own y → IsNodeOver own (by_kind kind x y)
   by_kind_over Split x y hx hy = hx
@@ -164,7 +164,7 @@ module _ (branch : Case) (path : List ℕ) (h : IsPrepared branch.ring branch.ze
 
   points_over : (units : ℕ) → IsNodeOver own (with_points branch path units)
   points_over units =
-      let run : ListRun = basis_run own (branch.polys ++ branch.zero) units in
+      let run : Ending (List (List Term)) = basis_run own (branch.polys ++ branch.zero) units in
       let y : Node = settled branch path (Solved branch.polys true) in
       by_kind_over branch.kind (after_basis branch path run) y (basis_over units run refl) (settled_over (Solved branch.polys true) h.polys)
 

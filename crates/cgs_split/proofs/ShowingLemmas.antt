@@ -9,8 +9,7 @@ use Rattle.cgs_poly.specs.Polynomial.{Term, one}
 use Rattle.cgs_poly.specs.Parameters.{has_no_variables}
 use Rattle.cgs_poly.proofs.SameLemmas.{same_poly_decides}
 use Rattle.cgs_algebra.specs.Stability.{parametric_members, other_members}
-use Rattle.cgs_divide.specs.AutoreductionRun.{ListRun, done}
-use Rattle.cgs_divide.specs.AutoreductionRun as list
+use Rattle.cgs_divide.specs.Ending.{Ending, ended, out_of_budget, out_of_degree}
 use Rattle.cgs_basis.specs.BasisRun.{basis_run}
 use Rattle.cgs_entry.specs.declared.entry.Cause.{Cause}
 use Rattle.cgs_entry.specs.declared.entry.Cause.TheVariants.{Budget, Degree, Depth}
@@ -18,7 +17,7 @@ use Rattle.cgs_entry.specs.declared.entry.EntryKind.TheVariants.{Solved, Refused
 use Rattle.cgs_entry.specs.Bases.{HaveVariables, IsOneOrHasVariables, ShowsOne}
 use Rattle.cgs_entry.specs.Conditions.{with_member}
 use Rattle.cgs_dickson.specs.Dickson.{minimal_dickson, has_minimal_lead_x, has_least_lead, coefficient_list}
-use Rattle.cgs_radical.specs.EmptinessRun.{Ending, ended, out_of_budget, out_of_degree, is_one_alone, emptiness_run}
+use Rattle.cgs_radical.specs.EmptinessRun.{is_one_alone, emptiness_run}
 use Rattle.cgs_split.specs.declared.kind.BranchKind.{BranchKind}
 use Rattle.cgs_split.specs.declared.kind.BranchKind.TheVariants.{Split, Main}
 use Rattle.cgs_split.specs.declared.kind.BranchKind.TheVariants.{Unit as UnitKind}
@@ -78,15 +77,15 @@ module _ (branch : Case) (path : List ℕ) (h : (branch.kind ≡ Split) ⊎ IsOn
       all_append (IsShowing own) units (main_child own branch G M ∷ splits) (units_showing branch.zero branch.nonzero E)
       (record { of = refl; polys = inr (inr (dickson_has_variables G)) }, splits_showing E branch.nonzero (other_members own G) (coefficient_list own M))
 
-  basis_showing : (run : ListRun) → IsNodeShowing own (after_basis branch path run)
-  basis_showing (done G left) = by_one (is_one_alone own G) refl
+  basis_showing : (run : Ending (List (List Term))) → IsNodeShowing own (after_basis branch path run)
+  basis_showing (ended G left) = by_one (is_one_alone own G) refl
     where
       by_one : (b : Bool) → is_one_alone own G ≡ b
           → IsNodeShowing own (cond b (settled branch path (Solved G true)) (None, children_of own branch G (minimal_dickson own (other_members own G))))
       by_one true e = (inl ((slice_eq-Decides same_poly_decides G (one own ∷ []) (is_one_alone own G) refl).0 e), tt)
       by_one false e = (tt, children_showing G)
-  basis_showing (list.out_of_budget left) = (inr tt, tt)
-  basis_showing (list.out_of_degree left) = (inr tt, tt)
+  basis_showing (out_of_budget left) = (inr tt, tt)
+  basis_showing (out_of_degree left) = (inr tt, tt)
 
   -- a branch that is not to be split has its basis
   polys_showing : (tested : Bool) → ¬ (branch.kind ≡ Split) → IsNodeShowing own (settled branch path (Solved branch.polys tested))
@@ -106,7 +105,7 @@ module _ (branch : Case) (path : List ℕ) (h : (branch.kind ≡ Split) ⊎ IsOn
 
   points_showing : (units : ℕ) → IsNodeShowing own (with_points branch path units)
   points_showing units =
-      let run : ListRun = basis_run own (branch.polys ++ branch.zero) units in
+      let run : Ending (List (List Term)) = basis_run own (branch.polys ++ branch.zero) units in
       let y : Node = settled branch path (Solved branch.polys true) in
       by_kind_showing branch.kind refl (after_basis branch path run) y (basis_showing run) (polys_showing true)
 

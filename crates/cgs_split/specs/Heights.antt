@@ -7,15 +7,14 @@ use Rattle.std.proofs.lemmas.Bool.{ltb-false}
 use Rattle.cgs_poly.specs.Ring.{Ring}
 use Rattle.cgs_poly.specs.Polynomial.{Term}
 use Rattle.cgs_algebra.specs.Stability.{parametric_members, other_members}
-use Rattle.cgs_divide.specs.AutoreductionRun.{ListRun, done}
-use Rattle.cgs_divide.specs.AutoreductionRun as list
+use Rattle.cgs_divide.specs.Ending.{Ending, ended, out_of_budget, out_of_degree}
 use Rattle.cgs_basis.specs.BasisRun.{basis_run}
 use Rattle.cgs_entry.specs.Conditions.{with_member}
 use Rattle.cgs_entry.specs.declared.entry.Cause.TheVariants.{Budget, Degree, Depth}
 use Rattle.cgs_entry.specs.declared.entry.EntryKind.TheVariants.{Solved, Refused}
 use Rattle.cgs_list.proofs.ListLemmas.{all_at, all_append}
 use Rattle.cgs_dickson.specs.Dickson.{minimal_dickson, coefficient_list}
-use Rattle.cgs_radical.specs.EmptinessRun.{Ending, ended, out_of_budget, out_of_degree, is_one_alone, emptiness_run}
+use Rattle.cgs_radical.specs.EmptinessRun.{is_one_alone, emptiness_run}
 use Rattle.cgs_board.specs.Tree.{Falls}
 use Rattle.cgs_split.specs.declared.kind.BranchKind.{BranchKind}
 use Rattle.cgs_split.specs.declared.kind.BranchKind.TheVariants.{Split, Main}
@@ -73,16 +72,16 @@ module _ (branch : Case) (path : List ℕ) where
     children_lower : (ring : Ring) (G M : List (List Term)) → AreLower (None, children_of ring branch G M)
     children_lower ring G M i child e = child_lower i child (all_at IsAlike (children_of ring branch G M) i child (children_alike ring G M) e)
 
-    basis_lower : (run : ListRun) → AreLower (after_basis branch path run)
-    basis_lower (done G left) = by_one (is_one_alone branch.ring G)
+    basis_lower : (run : Ending (List (List Term))) → AreLower (after_basis branch path run)
+    basis_lower (ended G left) = by_one (is_one_alone branch.ring G)
       where
         by_one : (b : Bool) → AreLower
             (cond b (settled branch path (Solved G true))
             (None, children_of branch.ring branch G (minimal_dickson branch.ring (other_members branch.ring G))))
         by_one true = childless
         by_one false = children_lower branch.ring G (minimal_dickson branch.ring (other_members branch.ring G))
-    basis_lower (list.out_of_budget left) = childless
-    basis_lower (list.out_of_degree left) = childless
+    basis_lower (out_of_budget left) = childless
+    basis_lower (out_of_degree left) = childless
 
   kinds_lower : (k : BranchKind) → branch.kind ≡ k → (x y : Node) → (branch.kind ≡ Split → AreLower x) → AreLower y → AreLower (by_kind k x y)
   kinds_lower Split e x y hx hy = hx e

@@ -1,8 +1,7 @@
 -- The node of a branch at a path: at most one entry, and the children (after Kapur, Sun, Wang 2010).
 use Rattle.std.specs.Prelude.{ℕ, ◌+◌, ◌-◌, Bool, true, false, cond, nat_lt, max, Option, Some, None, List, [], ◌++◌, length}
 use Rattle.cgs_algebra.specs.Stability.{other_members}
-use Rattle.cgs_divide.specs.AutoreductionRun.{ListRun, done}
-use Rattle.cgs_divide.specs.AutoreductionRun as list
+use Rattle.cgs_divide.specs.Ending.{Ending, ended, out_of_budget, out_of_degree}
 use Rattle.cgs_basis.specs.BasisRun.{basis_run}
 use Rattle.cgs_entry.specs.declared.entry.Cause.{Cause}
 use Rattle.cgs_entry.specs.declared.entry.Cause.TheVariants.{Budget, Degree, Depth}
@@ -11,7 +10,7 @@ use Rattle.cgs_entry.specs.declared.entry.Entry.{Entry}
 use Rattle.cgs_entry.specs.declared.entry.EntryKind.{EntryKind}
 use Rattle.cgs_entry.specs.declared.entry.EntryKind.TheVariants.{Solved, Refused}
 use Rattle.cgs_dickson.specs.Dickson.{minimal_dickson}
-use Rattle.cgs_radical.specs.EmptinessRun.{Ending, ended, out_of_budget, out_of_degree, is_one_alone, emptiness_run}
+use Rattle.cgs_radical.specs.EmptinessRun.{is_one_alone, emptiness_run}
 use Rattle.cgs_split.specs.declared.kind.BranchKind.{BranchKind}
 use Rattle.cgs_split.specs.declared.kind.BranchKind.TheVariants.{Split, Main}
 use Rattle.cgs_split.specs.declared.kind.BranchKind.TheVariants.{Unit as UnitKind}
@@ -42,10 +41,10 @@ with_basis branch path G =
     cond (is_one_alone branch.ring G) (settled branch path (Solved G true))
     (None, children_of branch.ring branch G (minimal_dickson branch.ring (other_members branch.ring G)))
 
-abbrev pub after_basis : Case → List ℕ → ListRun → Node
-after_basis branch path (done G units) = with_basis branch path G
-after_basis branch path (list.out_of_budget units) = settled branch path (Refused Budget)
-after_basis branch path (list.out_of_degree units) = settled branch path (Refused Degree)
+abbrev pub after_basis : Case → List ℕ → Ending (List (List Term)) → Node
+after_basis branch path (ended G units) = with_basis branch path G
+after_basis branch path (out_of_budget units) = settled branch path (Refused Budget)
+after_basis branch path (out_of_degree units) = settled branch path (Refused Degree)
 
 -- where it is not known whether the region is empty
 abbrev pub without_test : Case → List ℕ → Cause → Node

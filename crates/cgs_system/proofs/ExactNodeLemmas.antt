@@ -7,8 +7,7 @@ use Rattle.cgs_poly.specs.Ring.{Ring}
 use Rattle.cgs_poly.specs.Polynomial.{one, Term, IsRing}
 use Rattle.cgs_poly.proofs.SameLemmas.{same_poly_decides}
 use Rattle.cgs_algebra.specs.Stability.{parametric_members, other_members}
-use Rattle.cgs_divide.specs.AutoreductionRun.{ListRun, done}
-use Rattle.cgs_divide.specs.AutoreductionRun as list
+use Rattle.cgs_divide.specs.Ending.{Ending, ended, out_of_budget, out_of_degree}
 use Rattle.cgs_basis.specs.BasisRun.{basis_run}
 use Rattle.cgs_basis.proofs.BasisLemmas.{basis_reduced}
 use Rattle.cgs_entry.specs.declared.entry.Cause.{Cause}
@@ -17,7 +16,7 @@ use Rattle.cgs_entry.specs.declared.entry.Entry.{Entry}
 use Rattle.cgs_entry.specs.declared.entry.EntryKind.TheVariants.{Solved, Refused}
 use Rattle.cgs_entry.specs.Conditions.{with_member}
 use Rattle.cgs_dickson.specs.Dickson.{minimal_dickson, coefficient_list}
-use Rattle.cgs_radical.specs.EmptinessRun.{Ending, ended, out_of_budget, out_of_degree, is_one_alone, emptiness_run}
+use Rattle.cgs_radical.specs.EmptinessRun.{is_one_alone, emptiness_run}
 use Rattle.cgs_radical.specs.Laws.{Contradict}
 use Rattle.cgs_radical.proofs.EmptinessLemmas.{empty_is_contradiction}
 use Rattle.cgs_split.specs.declared.kind.BranchKind.TheVariants.{Split, Unit as UnitKind}
@@ -37,11 +36,11 @@ module _ (branch : Case) (path : List ℕ) (r : IsRing branch.ring) (ok : IsBran
   IsOne node = AllByRecursion IsTested (own_entries node.0) → IsExactNode branch.ring branch path (own_entries node.0) node.1
 
   -- a basis run that ended
-  based : ¬ (Contradict branch.ring branch.zero branch.nonzero) → branch.kind ≡ Split → (run : ListRun) (units : ℕ)
+  based : ¬ (Contradict branch.ring branch.zero branch.nonzero) → branch.kind ≡ Split → (run : Ending (List (List Term))) (units : ℕ)
       → basis_run branch.ring (branch.polys ++ branch.zero) units ≡ run → IsOne (after_basis branch path run)
-  based c k (list.out_of_budget left) units e = λ t. absurd t.0
-  based c k (list.out_of_degree left) units e = λ t. absurd t.0
-  based c k (done G left) units e = by_one (is_one_alone branch.ring G) refl
+  based c k (out_of_budget left) units e = λ t. absurd t.0
+  based c k (out_of_degree left) units e = λ t. absurd t.0
+  based c k (ended G left) units e = by_one (is_one_alone branch.ring G) refl
     where
       found : IsReducedBasisOf branch.ring branch G
       found = let h = basis_reduced branch.ring (branch.polys ++ branch.zero) G units left r (generators_ok branch path r ok) e in

@@ -5,7 +5,6 @@ use Rattle.std.proofs.lemmas.List.{length-set, take_at}
 use Rattle.cgs_exps.specs.Monomial.{degree, divides, quotient, product}
 use Rattle.cgs_exps.proofs.MonomialLemmas.{quotient_length, quotient_product, degree_quotient}
 use Rattle.cgs_poly.specs.Product.{multiple, leading_monomial, leading_coefficient}
-use Rattle.cgs_divide.specs.declared.stop.Stop.TheVariants as stop
 use Rattle.cgs_poly.specs.Polynomial.{Term, HasLowDegrees, IsPoly, places, term, canonical}
 use Rattle.cgs_poly.specs.Draft.{HaveLength}
 use Rattle.cgs_poly.proofs.RingLemmas.{ring_positive}
@@ -18,13 +17,14 @@ use Rattle.cgs_divide.specs.Tops.{top_behind_lead}
 use Rattle.cgs_divide.proofs.RestLemmas.{left_poly}
 use Rattle.cgs_divide.proofs.TailLemmas.{step_left, step_rest, tail_high, tail_not_high}
 use Rattle.cgs_algebra.proofs.RepresentationLemmas.{lead_at_length}
-use Rattle.cgs_divide.specs.DivisionRun.{first_divisor, undivided, out_of_budget, out_of_degree, is_too_high, less_multiple}
+use Rattle.cgs_divide.specs.Ending.{out_of_budget, out_of_degree}
+use Rattle.cgs_divide.specs.DivisionRun.{first_divisor, undivided, done, keeping, divided, is_too_high, less_multiple}
+use Rattle.cgs_divide.proofs.EndingLemmas.{passed_on, by_stop}
 use Rattle.cgs_divide.proofs.QuotientLemmas.{divisor_divides, zeros, zeros_length}
 use Rattle.cgs_divide.proofs.RunLemmas.{monic_some, divided_nothing}
 use Rattle.cgs_divide.proofs.ResumedLemmas.{resumed_done, zeros_front, empty_at, front_set}
 use Rattle.cgs_divide.proofs.UndividedLemmas.{kept_front, within_terms, within_limit}
 use Rattle.cgs_divide.proofs.StepLemmas.{get_read, kept_step, kept_stop, taken_budget, taken_degree, taken_step, set_keeps, lengths_append}
-use Rattle.cgs_divide.proofs.StepLemmas.{same_stop}
 use Rattle.cgs_divide.proofs.division.divide_keeping.Goals as goal
 use Rattle.cgs_divide.proofs.division.divide_keeping.Goals.{In-Some, After-get-divisor, After-from_vec}
 use Rattle.cgs_algebra.proofs.PlaceLemmas.{monic_at}
@@ -113,14 +113,18 @@ none_divides : (c : In-Some) → length c.args.divisors.now ≤ first_divisor c.
     → length c.args.divisors.now ≤ first_divisor c.args.divisors.now c.take_lead.new.out
 none_divides c h = subst (λ m. length c.args.divisors.now ≤ first_divisor c.args.divisors.now m) (seen_is c) h
 
-pub returns-in_err-spend-in-None-clause-budget : goal.returns-in_err-spend-in-None-clause-budget
-returns-in_err-spend-in-None-clause-budget c = λ e.
-    let s = (goal.at.returns-in_err-spend-in-None-clause-budget c).In-Some in
-    c.loop-c.invariant.run.run
+pub returns-in_err-spend-in-None-clause-ends : goal.returns-in_err-spend-in-None-clause-ends
+returns-in_err-spend-in-None-clause-ends c =
+    let s = (goal.at.returns-in_err-spend-in-None-clause-ends c).In-Some in
+    let stop = c.in_err-spend-in-None.ensures in
+    passed_on _ _ c.in_err-spend-in-None.field-0.0 c.from_residual-in_err-spend-in-None.result c.from_residual-in_err-spend-in-None.ensures.1
+    (by_stop _ _ c.in_err-spend-in-None.field-0.0
+    (λ e. ap (keeping c.args.kept) (c.loop-c.invariant.run.run
     ∙ (kept_stop c.args.ring.now c.args.divisors.now c.requires.monic c.loop-c.invariant.run.quotients
     c.loop-c.fuel c.loop-c.remainder (left c.args.ring.now c.loop-c.rest c.args.f.now) (leading s) (here s)
-    (none_divides s (c.in-None.ensures.none refl)) c.in_err-spend-in-None.ensures.budget.0
-    ∙ ap out_of_budget (sym c.in_err-spend-in-None.ensures.budget.1))
+    (none_divides s (c.in-None.ensures.none refl)) stop.budget.0
+    ∙ ap out_of_budget (sym stop.budget.1))))
+    (λ e. absurd (cc (e, stop.err))))
 
 pub loop-c-preserved-in-Continue-branch-6 : goal.loop-c-preserved-in-Continue-branch-6
 loop-c-preserved-in-Continue-branch-6 c =
@@ -233,40 +237,31 @@ step_is s g t h = h ∙ ap (λ m. quotient m (leading_monomial g)) (seen_is s)
 
 -- a stop of the step is one of the run
 
-pub returns-in_err-reduce-in-Some-first_divisor-clause-budget : goal.returns-in_err-reduce-in-Some-first_divisor-clause-budget
-returns-in_err-reduce-in-Some-first_divisor-clause-budget c = λ e.
-    let s : c.in_err-reduce-in-Some-first_divisor.field-0.0 ≡ stop.Budget =
-    same_stop c.from_residual-in_err-reduce-in-Some-first_divisor.result c.in_err-reduce-in-Some-first_divisor.field-0.0
-    stop.Budget c.from_residual-in_err-reduce-in-Some-first_divisor.ensures.1 e in
-    let h = c.in_err-reduce-in-Some-first_divisor.ensures.budget (ap Err s) in
+pub returns-in_err-reduce-in-Some-first_divisor-clause-ends : goal.returns-in_err-reduce-in-Some-first_divisor-clause-ends
+returns-in_err-reduce-in-Some-first_divisor-clause-ends c =
     let f = c.in-Some-first_divisor.ensures.first in
-    let x = (goal.at.returns-in_err-reduce-in-Some-first_divisor-clause-budget c).In-Some in
-    let d = (goal.at.returns-in_err-reduce-in-Some-first_divisor-clause-budget c).After-get-divisor in
-    c.loop-c.invariant.run.run
-    ∙ (taken_budget c.args.ring.now c.args.divisors.now c.requires.monic c.loop-c.invariant.run.quotients c.loop-c.fuel c.loop-c.remainder
-    (left c.args.ring.now c.loop-c.rest c.args.f.now) (leading x) (here x)
-    c.in-Some-first_divisor.i c.get-divisor.result.now (first_is x c.in-Some-first_divisor.i f.1) f.0 (divisor_is d) h.0
-    ∙ ap out_of_budget (sym h.1))
-
-pub returns-in_err-reduce-in-Some-first_divisor-clause-degree : goal.returns-in_err-reduce-in-Some-first_divisor-clause-degree
-returns-in_err-reduce-in-Some-first_divisor-clause-degree c = λ e.
-    let s : c.in_err-reduce-in-Some-first_divisor.field-0.0 ≡ stop.Degree =
-    same_stop c.from_residual-in_err-reduce-in-Some-first_divisor.result c.in_err-reduce-in-Some-first_divisor.field-0.0
-    stop.Degree c.from_residual-in_err-reduce-in-Some-first_divisor.ensures.1 e in
-    let h = c.in_err-reduce-in-Some-first_divisor.ensures.degree (ap Err s) in
-    let f = c.in-Some-first_divisor.ensures.first in
-    let x = (goal.at.returns-in_err-reduce-in-Some-first_divisor-clause-degree c).In-Some in
-    let d = (goal.at.returns-in_err-reduce-in-Some-first_divisor-clause-degree c).After-get-divisor in
+    let x = (goal.at.returns-in_err-reduce-in-Some-first_divisor-clause-ends c).In-Some in
+    let d = (goal.at.returns-in_err-reduce-in-Some-first_divisor-clause-ends c).After-get-divisor in
     let g : List Term = c.get-divisor.result.now in
-    let high : is_too_high (multiple c.in-Some.c c.lead_quotient_into.new.out c.get-divisor.result.now) ≡ true =
-    tail_high c.in-Some.c (c.args.ring.now.modulus - c.in-Some.c) c.lead_quotient_into.new.out c.get-divisor.result.now h.2 in
-    c.loop-c.invariant.run.run
+    let t : List ℕ = c.lead_quotient_into.new.out in
+    let first = first_is x c.in-Some-first_divisor.i f.1 in
+    passed_on _ _ c.in_err-reduce-in-Some-first_divisor.field-0.0 c.from_residual-in_err-reduce-in-Some-first_divisor.result
+    c.from_residual-in_err-reduce-in-Some-first_divisor.ensures.1
+    (by_stop _ _ c.in_err-reduce-in-Some-first_divisor.field-0.0
+    (λ e.
+    let h = c.in_err-reduce-in-Some-first_divisor.ensures.budget (ap Err e) in
+    ap (keeping c.args.kept) (c.loop-c.invariant.run.run
+    ∙ (taken_budget c.args.ring.now c.args.divisors.now c.requires.monic c.loop-c.invariant.run.quotients c.loop-c.fuel c.loop-c.remainder
+    (left c.args.ring.now c.loop-c.rest c.args.f.now) (leading x) (here x) c.in-Some-first_divisor.i g first f.0 (divisor_is d) h.0
+    ∙ ap out_of_budget (sym h.1))))
+    (λ e.
+    let h = c.in_err-reduce-in-Some-first_divisor.ensures.degree (ap Err e) in
+    let high : is_too_high (multiple c.in-Some.c t g) ≡ true = tail_high c.in-Some.c (c.args.ring.now.modulus - c.in-Some.c) t g h.2 in
+    ap (keeping c.args.kept) (c.loop-c.invariant.run.run
     ∙ (taken_degree c.args.ring.now c.args.divisors.now c.requires.monic c.loop-c.invariant.run.quotients c.loop-c.fuel c.loop-c.remainder
-    (left c.args.ring.now c.loop-c.rest c.args.f.now) (leading x) (here x)
-    c.in-Some-first_divisor.i c.get-divisor.result.now (first_is x c.in-Some-first_divisor.i f.1) f.0 (divisor_is d) h.0
-    (subst (λ n. is_too_high (multiple c.in-Some.c n c.get-divisor.result.now) ≡ true) (step_is x g c.lead_quotient_into.new.out c.lead_quotient_into.ensures)
-    high)
-    ∙ ap out_of_degree (sym h.1))
+    (left c.args.ring.now c.loop-c.rest c.args.f.now) (leading x) (here x) c.in-Some-first_divisor.i g first f.0 (divisor_is d) h.0
+    (subst (λ n. is_too_high (multiple c.in-Some.c n g) ≡ true) (step_is x g t c.lead_quotient_into.ensures) high)
+    ∙ ap out_of_degree (sym h.1)))))
 
 -- a step that is done
 
@@ -278,7 +273,7 @@ loop-c-smaller c =
 
 pub loop-c-preserved : goal.loop-c-preserved
 loop-c-preserved c =
-    let done = c.in_ok-reduce-in-Some-first_divisor.ensures in
+    let step = c.in_ok-reduce-in-Some-first_divisor.ensures in
     let f = c.in-Some-first_divisor.ensures.first in
     let s = (goal.at.loop-c-preserved c).In-Some in
     let d = (goal.at.loop-c-preserved c).After-get-divisor in
@@ -300,29 +295,29 @@ loop-c-preserved c =
     quotient_length c.take_lead.new.out (leading_monomial g) (places c.args.ring.now) c.in-Some.ensures.out (lead_long d) in
     let back : product t (leading_monomial g) ≡ c.take_lead.new.out =
     quotient_product c.take_lead.new.out (leading_monomial g) (c.in-Some.ensures.out ∙ sym (lead_long d)) (divisor_divides_at d c.take_lead.new.out first) in
-    let behind = subst (λ n. HasLowDegrees (multiple (c.args.ring.now.modulus - c.in-Some.c) n (drop 1 c.get-divisor.result.now))) t_is done.low in
-    let sum = done.sum ∙ ap (λ n. canonical c.args.ring.now
+    let behind = subst (λ n. HasLowDegrees (multiple (c.args.ring.now.modulus - c.in-Some.c) n (drop 1 c.get-divisor.result.now))) t_is step.low in
+    let sum = step.sum ∙ ap (λ n. canonical c.args.ring.now
     (c.take_lead.new.self.sum.terms ++ multiple (c.args.ring.now.modulus - c.in-Some.c) n (drop 1 c.get-divisor.result.now))) t_is in
     let next : left c.args.ring.now c.reduce.new.rest c.args.f.now ≡ less_multiple c.args.ring.now (left c.args.ring.now c.loop-c.rest c.args.f.now)
     c.in-Some.c (quotient c.take_lead.new.out (leading_monomial c.get-divisor.result.now)) c.get-divisor.result.now =
     step_left ring c.args.f.now g c.take_lead.new.self c.reduce.new.rest c.in-Some.c t pos c.requires.poly c.in-Some.ensures.rest (divisor_poly d) long
-    done.from sum c.take_lead.new.out (divisor_some d) (divisor_monic d) back p.canonical.1 c.in-Some.ensures.out
+    step.from sum c.take_lead.new.out (divisor_some d) (divisor_monic d) back p.canonical.1 c.in-Some.ensures.out
     ∙ ap (λ k. less_multiple ring k c.in-Some.c t g) (sym c.in-Some.ensures.first) in
     let low = tail_not_high c.in-Some.c (ring.modulus - c.in-Some.c) c.take_lead.new.out t g (divisor_some d) back p.low.0 behind in
     record {
       run = record {
         quotients = set r.quotients i (get_or r.quotients i [] ++ y ∷ []);
-        run = rw done.paid.1 (r.run
+        run = rw step.paid.1 (r.run
             ∙ taken_step c.args.ring.now c.args.divisors.now c.requires.monic r.quotients c.loop-c.fuel c.loop-c.remainder
             (left c.args.ring.now c.loop-c.rest c.args.f.now) x (here s) i g first f.0 place
-            (left c.args.ring.now c.reduce.new.rest c.args.f.now) next done.paid.0 low);
+            (left c.args.ring.now c.reduce.new.rest c.args.f.now) next step.paid.0 low);
         kept = now ∙ (ap (λ K. set K i (get_or K i [] ++ y ∷ [])) r.kept ∙ front_set c.args.kept i r.quotients y);
         places = length-set r.quotients i (get_or r.quotients i [] ++ y ∷ []) ∙ r.places;
       };
       rest = step_rest ring c.args.f.now g c.take_lead.new.self c.reduce.new.rest c.in-Some.c t pos c.requires.poly c.in-Some.ensures.rest (divisor_poly d) long
-          done.from sum done.ring behind;
+          step.from sum step.ring behind;
       remainder = c.loop-c.invariant.remainder;
-      units = omega (arith, done.paid.1, c.loop-c.invariant.units);
+      units = omega (arith, step.paid.1, c.loop-c.invariant.units);
       tops = c.top-top.ensures.known;
       lengths =
           λ j. rw now
@@ -335,17 +330,14 @@ loop-c-preserved c =
 nothing_left : (c : After-from_vec) → left c.args.ring.now c.loop-c.rest c.args.f.now ≡ []
 nothing_left c = c.in_default.ensures.none refl
 
-pub returns-clause-ok : goal.returns-clause-ok
-returns-clause-ok c =
-    let r = c.loop-c.invariant.run in (
-      record {
-        quotients = r.quotients;
-        ends = r.run
-            ∙ rw (
-              nothing_left (goal.at.returns-clause-ok c).After-from_vec,
-              divided_nothing c.args.ring.now c.args.divisors.now c.requires.monic c.loop-c.fuel,
-            )
-            (resumed_done c.loop-c.remainder r.quotients c.args.divisors.now c.loop-c.fuel r.places);
-      },
-      c.from_vec.ensures ∙ r.kept,
+pub returns-clause-ends : goal.returns-clause-ends
+returns-clause-ends c =
+    let r = c.loop-c.invariant.run in
+    let whole : divided c.args.ring.now c.args.divisors.now c.args.fuel.now c.args.f.now ≡ done c.loop-c.remainder r.quotients c.loop-c.fuel =
+    r.run
+    ∙ rw (
+      nothing_left (goal.at.returns-clause-ends c).After-from_vec,
+      divided_nothing c.args.ring.now c.args.divisors.now c.requires.monic c.loop-c.fuel,
     )
+    (resumed_done c.loop-c.remainder r.quotients c.args.divisors.now c.loop-c.fuel r.places) in
+    ap (keeping c.args.kept) whole ∙ ap (λ Q. done c.loop-c.remainder Q c.loop-c.fuel) (sym (c.from_vec.ensures ∙ r.kept))

@@ -3,8 +3,8 @@ use Rattle.std.proofs.lemmas.List.{length-drop}
 use Rattle.std.specs.Option.{is_some}
 use Rattle.std.specs.Prelude.{IfSome, IsNone}
 use Rattle.cgs_list.proofs.ListLemmas.{all_at}
-use Rattle.cgs_poly.specs.Polynomial.{Term, term}
-use Rattle.cgs_divide.specs.DivisionRun.{first_divisor, undivided}
+use Rattle.cgs_poly.specs.Polynomial.{Term}
+use Rattle.cgs_divide.specs.DivisionRun.{undivided}
 use Rattle.cgs_divide.proofs.UndividedLemmas.{within_limit, within_terms, at_divided, at_kept}
 use Rattle.cgs_divide.proofs.division.undivided.Goals as goal
 

@@ -5,4 +5,4 @@ use Rattle.cgs_divide.proofs.laws.division_examples.Goals as goal
 
 pub returns : goal.returns
 unfolding key compared divided
-returns c = (refl, refl, refl, refl, refl)
+returns c = (refl, refl, refl, refl, refl, refl, refl)

@@ -21,8 +21,8 @@ mod sum;
 pub use cgs_terms::{Ring, Term, TermList};
 pub use fault::PolyFault;
 pub use laws::{
-    coefficients_decide, one_is_least, product_keeps_order, specialising_is_homomorphism,
-    value_is_homomorphism,
+    canonical_keeps_coefficients, coefficients_decide, one_is_least, product_keeps_order,
+    specialising_is_homomorphism, value_is_homomorphism,
 };
 pub use list::{are_same, is_among, joined};
 pub use poly::{Poly, PolyList};

@@ -36,8 +36,8 @@ impl Poly {
         Ok(product)
     }
 
-    // Whether there are terms, and some monomial has a degree above 32767 together with a further degree.
-    pub(crate) fn exceeds(&self, further: u32) -> bool
+    /// Whether there are terms, and some monomial has a degree above 32767 together with a further degree.
+    pub fn exceeds(&self, further: u32) -> bool
         requires { EachTerm (λ c m. length m ≤ 17) self.now }
         ensures { IsTrue result ↔ ((0 < length self.now) × (greatest_degree < further + top_degree self.now)) }
     {

@@ -1,18 +1,20 @@
 -- The S-polynomial as two subtractions make it.
-use Rattle.std.proofs.Common.{ℕ, ◌≡◌, ◌-◌, ◌%◌, ◌<◌, Ok, Err, List, [], ◌∷◌, ◌++◌, length, refl, sym, ap, ◌∙◌, arith}
+use Rattle.std.proofs.Common.{ℕ, ◌≡◌, ◌+◌, ◌-◌, ◌%◌, ◌<◌, Bool, true, false, Ok, Err, List, [], ◌∷◌, ◌++◌, length, refl, sym, ap, ◌∙◌, subst, arith}
 use Rattle.std.proofs.Math.Nat.{mod-eq_of_lt}
 use Rattle.std.specs.Prelude.{Result, IsErrAnd, IsErrOf}
 use Rattle.cgs_field.proofs.PrimeLemmas.{modulus_field}
-use Rattle.cgs_exps.specs.Monomial.{quotient, lcm}
+use Rattle.cgs_exps.specs.Monomial.{degree, quotient, lcm}
 use Rattle.cgs_exps.proofs.MonomialLemmas.{quotient_length, lcm_length}
 use Rattle.cgs_poly.specs.Ring.{Ring}
-use Rattle.cgs_poly.specs.Polynomial.{Term, places, IsRing, IsOfRing, IsCanonical, HasLowDegrees, canonical}
+use Rattle.cgs_poly.specs.Polynomial.{Term, places, IsRing, IsOfRing, IsCanonical, HasLowDegrees, canonical, greatest_degree}
 use Rattle.cgs_poly.specs.declared.fault.PolyFault.{PolyFault}
-use Rattle.cgs_poly.specs.Product.{multiple, leading_monomial}
+use Rattle.cgs_poly.specs.Product.{multiple, leading_monomial, top_degree}
+use Rattle.cgs_poly.specs.Draft.{HaveLength}
 use Rattle.cgs_poly.proofs.RingLemmas.{ring_positive}
 use Rattle.cgs_poly.proofs.SumLemmas.{alike_same, alike_append}
 use Rattle.cgs_poly.proofs.CanonicalLemmas.{canonical_of_ring, canonical_alike, canonical_same, is_canonical, append_of_ring, append_low, low_front}
-use Rattle.cgs_poly.proofs.ProductLemmas.{multiple_of_ring, low_any}
+use Rattle.cgs_poly.proofs.ProductLemmas.{multiple_of_ring, low_any, multiple_low, low_if_any, fits_unless}
+use Rattle.cgs_poly.proofs.PlaceLemmas.{canonical_length}
 use Rattle.cgs_algebra.specs.SPolynomial.{s_terms}
 
 low_back : (f g : List Term) → HasLowDegrees (f ++ g) → HasLowDegrees g
@@ -22,6 +24,10 @@ low_back (x ∷ f) g h = low_back f g h.1
 pub same_fault : {T : Type 0} (r : Result T PolyFault) (s e : PolyFault) → IsErrAnd r (λ k. k ≡ s) → IsErrOf r e → s ≡ e
 same_fault (Ok x) s e h k = absurd (cc)
 same_fault (Err y) s e h k = cc
+
+pub passed_fault : {T : Type 0} (r : Result T PolyFault) (s e : PolyFault) → IsErrAnd r (λ k. k ≡ s) → s ≡ e → IsErrOf r e
+passed_fault (Ok x) s e h k = absurd h
+passed_fault (Err y) s e h k = ap Err (h ∙ k)
 
 -- the numbers that the subtractions take: 1 and -1
 pub one_is : (ring : Ring) → IsRing ring → 1 % ring.modulus ≡ 1
@@ -83,3 +89,15 @@ module _ (ring : Ring) (r : IsRing ring) (f g : List Term) (cf : IsCanonical rin
 
   pub second_high : (one : ℕ) → (HasLowDegrees (multiple one s g) → ⊥) → HasLowDegrees (s_terms ring f g) → ⊥
   second_high one n h = n (low_any (ring.modulus - 1) one s g (low_back (multiple 1 t f) (multiple (ring.modulus - 1) s g) (rw terms_are at h)))
+
+  -- what the test of the second multiple tells
+
+  second_lengths : HaveLength (length s) g
+  second_lengths = subst (λ n. HaveLength n g) (sym (quotient_length (lcm a b) b (places ring) long pb)) (canonical_length ring g cg)
+
+  pub second_exceeds : (d : ℕ) → d ≡ degree s → (0 < length g) × (greatest_degree < d + top_degree g) → HasLowDegrees (s_terms ring f g) → ⊥
+  second_exceeds d e q = second_high 1 (λ low. omega (arith, multiple_low 1 s g second_lengths q.0 low, q.1, e))
+
+  pub second_fits : (tested : Bool) (d one : ℕ) → d ≡ degree s → tested ≡ false
+      → ((0 < length g) × (greatest_degree < d + top_degree g) → tested ≡ true) → HasLowDegrees (multiple one s g)
+  second_fits tested d one e failed h = low_if_any one s g second_lengths (fits_unless tested (degree s) d g e failed h)

@@ -27,6 +27,10 @@ abbrev pub has_third : Pair → List (ℕ × ℕ) → ℕ → List (List Term) �
 has_third q taken k [] = false
 has_third q taken k (f ∷ G) = is_third q taken k f || has_third q taken (suc k) G
 
+-- place k of G is such a third place
+abbrev pub IsThirdPlace : Pair → List (List Term) → List (ℕ × ℕ) → ℕ → Type 0
+IsThirdPlace q G taken k = (k < length G) × IsTrue (is_third q taken k (slice_index_or G k []))
+
 -- the pair is passed: its leads are coprime, or there is a third place
 abbrev pub is_passed : Pair → List (List Term) → List (ℕ × ℕ) → Bool
 is_passed q G taken = coprime (leading_monomial_at G q.smaller) (leading_monomial_at G q.larger) || has_third q taken 0 G

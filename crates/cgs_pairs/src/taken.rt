@@ -1,9 +1,10 @@
 //! The pairs that were taken.
 
-ghost use Rattle.std.specs.Prelude.{◌≡◌, ◌++◌, [], ◌∷◌, OnOk, OnErr};
-ghost use Rattle.cgs_pairs.specs.Passed.{has_pair};
+ghost use Rattle.std.specs.Prelude.{◌≡◌, ◌++◌, ℕ, [], ◌∷◌, true, OnOk, OnErr};
+ghost use Rattle.cgs_pairs.specs.Passed.{has_pair, was_taken};
+ghost use Rattle.cgs_pairs.specs.Table.{is_marked};
 
-use crate::marks::{Marks, reach_row};
+use crate::table::Table;
 use std::alloc::{AllocError, Global};
 use std::marker::Model;
 
@@ -12,19 +13,24 @@ use std::marker::Model;
 #[derive(Drop)]
 pub struct Taken {
     pairs: Vec<(usize, usize)>,
-    // for each larger place the smaller places of its pairs
-    rows: Vec<Marks>,
+    // in the row of each larger place the smaller places of its pairs
+    smaller: Table,
+    // in the row of each place the other places of its pairs
+    partners: Table,
 }
 
 impl Model for Taken {
     ghost use Rattle.std.specs.Prelude.{List, ℕ};
-    ghost use Rattle.cgs_pairs.specs.Table.{IsTable};
+    ghost use Rattle.cgs_pairs.specs.Table.{IsTable, ArePartners};
 
     ghost Value = { List (ℕ × ℕ) };
 
     ghost view = { λ taken. taken.pairs.items };
 
-    ghost invariant = { λ taken. IsTable taken.rows.items taken.pairs.items };
+    ghost invariant = { λ taken. record {
+      smaller : IsTable taken.smaller taken.pairs.items;
+      partners : ArePartners taken.partners taken.pairs.items;
+    } };
 }
 
 impl Taken {
@@ -34,7 +40,8 @@ impl Taken {
     {
         Taken {
             pairs: Vec::new(alloc),
-            rows: Vec::new(alloc),
+            smaller: Table::new(alloc),
+            partners: Table::new(alloc),
         }
     }
 
@@ -43,10 +50,13 @@ impl Taken {
         ensures ok { OnOk result (self.new ≡ self.old ++ (larger, smaller) ∷ []) }
         ensures err { OnErr result (self.new ≡ self.old) }
     {
-        reach_row(*self.rows.allocator(), &mut self.rows, larger)?;
-        self.rows[larger].reach(smaller)?;
+        self.smaller.reach(larger, smaller)?;
+        self.partners.reach(larger, smaller)?;
+        self.partners.reach(smaller, larger)?;
         self.pairs.push((larger, smaller))?;
-        self.rows[larger].mark(smaller);
+        self.smaller.mark(larger, smaller);
+        self.partners.mark(larger, smaller);
+        self.partners.mark(smaller, larger);
         Ok(())
     }
 
@@ -54,6 +64,13 @@ impl Taken {
     pub fn has(&self, larger: usize, smaller: usize) -> bool
         ensures { result ≡ has_pair larger smaller self.now }
     {
-        larger < self.rows.len() && self.rows[larger].has(smaller)
+        self.smaller.has(larger, smaller)
+    }
+
+    /// Words of marks for the places whose pairs with a place were taken.
+    pub(crate) fn partners_of(&self, place: usize) -> &[u64]
+        ensures { (k : ℕ) → was_taken k place self.now ≡ true → is_marked result.now k ≡ true }
+    {
+        self.partners.words(place)
     }
 }

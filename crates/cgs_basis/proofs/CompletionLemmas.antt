@@ -28,14 +28,15 @@ use Rattle.cgs_divide.proofs.EndingLemmas.{has_followed, past_budget, past_degre
 use Rattle.cgs_pairs.specs.declared.pair.Pair.{Pair}
 use Rattle.cgs_pairs.specs.PairOrder.{IsWaiting}
 use Rattle.cgs_pairs.specs.Passed.{is_passed, AreRepresented}
+use Rattle.cgs_pairs.proofs.PairLemmas.{pairs_kept}
 use Rattle.cgs_pairs.proofs.PassedLemmas.{passed_represented}
-use Rattle.cgs_basis.specs.BasisRun.{Completion, Pairs, with_pairs, appended, with_generator, with_generators, with_remainder, pair_terms}
+use Rattle.cgs_basis.specs.BasisRun.{Completion, Pairs, leads_of, with_last, appended, with_generator, with_generators, with_remainder, pair_terms}
 use Rattle.cgs_basis.specs.BasisRun.{with_taken, passed_over, after_least, completed_in, start, completion}
 use Rattle.cgs_poly.proofs.SameLemmas.{among_place}
 use Rattle.cgs_algebra.proofs.GrowthLemmas.{member_more, last_member}
 use Rattle.cgs_basis.proofs.TakenLemmas.{still_within, represented_more, represented_with}
 use Rattle.cgs_basis.proofs.RepresentedLemmas.{pair_polynomial, pair_canonical, pair_alike, represented_by_division, represented_with_remainder}
-use Rattle.cgs_basis.proofs.StateLemmas.{IsSound, IsSettledAt, AreSettled, pairs_kept, taken_settled, appended_sound, appended_settled, new_waits}
+use Rattle.cgs_basis.proofs.StateLemmas.{IsSound, IsSettledAt, AreSettled, taken_settled, appended_sound, appended_settled, new_waits}
 use Rattle.std.specs.List.{AllByRecursion}
 use Rattle.cgs_list.proofs.ListLemmas.{all_weaker}
 
@@ -57,8 +58,9 @@ module _ (ring : Ring) (r : IsRing ring) (F : List (List Term)) (can : AllByRecu
       → IsMember ring F g → IsGood (appended ring s g) taken
   appended_good s taken g h k one m = record {
     sound = appended_sound ring F s.members g s.pairs h.sound k one m;
-    settled = appended_settled ring F s.members g s.pairs (with_pairs (order_of ring) g (length s.members) 0 s.members s.pairs) h.settled
-        (λ q w. pairs_kept (order_of ring) g (length s.members) 0 s.members s.pairs q w) (λ i l. new_waits (order_of ring) s.members g s.pairs i l);
+    settled = appended_settled ring F s.members g s.pairs (with_last (order_of ring) s.members g s.pairs) h.settled
+        (λ q w. pairs_kept (order_of ring) (leading_monomial g) (length s.members) 0 (leads_of s.members) s.pairs q w)
+        (λ i l. new_waits (order_of ring) s.members g s.pairs i l);
     represented = represented_more ring s.members (g ∷ []) taken h.represented;
   }
 
@@ -179,7 +181,7 @@ module _ (ring : Ring) (r : IsRing ring) (F : List (List Term)) (can : AllByRecu
         let g : List Term = monic_of ring (x ∷ remainder) in
         let m : IsMember ring F (x ∷ remainder) =
         remainder_member ring pos G h.sound.monic F h.sound.inside (canonical ring (pair_terms ring G q)) (x ∷ remainder) quotients d s_inside in
-        let after : List Pair = with_pairs (order_of ring) g (length G) 0 G pairs in
+        let after : List Pair = with_last (order_of ring) G g pairs in
         let k : HasLcmRepresentation ring (G ++ g ∷ []) q.smaller q.larger =
         represented_with_remainder ring r G h.sound.monic q.smaller q.larger within_smaller within x remainder quotients d in
         record {
@@ -187,7 +189,10 @@ module _ (ring : Ring) (r : IsRing ring) (F : List (List Term)) (can : AllByRecu
               (monic_one ring r x remainder d.canonical_remainder) (monic_inside x remainder d.canonical_remainder m);
           settled = taken_settled ring (G ++ g ∷ []) q after
               (appended_settled ring F G g (q ∷ pairs) (q ∷ after) h.settled
-              (λ x w. elim w as (λ _. IsWaiting x (q ∷ after)) [ inl e ↦ inl e | inr v ↦ inr (pairs_kept (order_of ring) g (length G) 0 G pairs x v) ])
+              (λ x w. elim w as (λ _. IsWaiting x (q ∷ after)) [
+                | inl e ↦ inl e
+                | inr v ↦ inr (pairs_kept (order_of ring) (leading_monomial g) (length G) 0 (leads_of G) pairs x v)
+              ])
               (λ k l. let n = new_waits (order_of ring) G g pairs k l in (n.0, inr n.1, n.2, n.3))) k;
           represented = represented_with ring (G ++ g ∷ []) taken q (represented_more ring G (g ∷ []) taken h.represented)
               (still_within G (g ∷ []) q.smaller within_smaller) (still_within G (g ∷ []) q.larger within) k;

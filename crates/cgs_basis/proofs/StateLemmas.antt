@@ -1,62 +1,28 @@
 -- What is known of a completion at each step: monic members of the ideal, and each pair of places waits or has an lcm representation.
-use Rattle.std.proofs.Common.{ℕ, zero, suc, ◌≡◌, ◌+◌, ◌<◌, ◌≤◌, ◌⊎◌, inl, inr, true, false, cond, List, [], ◌∷◌, ◌++◌, length, get_or, drop, add-one, refl, sym}
+use Rattle.std.proofs.Common.{ℕ, suc, ◌≡◌, ◌+◌, ◌<◌, ◌≤◌, ◌⊎◌, inl, inr, true, false, cond, List, [], ◌∷◌, ◌++◌, length, get_or, zero-add, refl, sym}
 use Rattle.std.proofs.Common.{ap, ◌∙◌, subst, arith}
-use Rattle.std.proofs.Math.Seq.{drop-cons, get_or-append_seam}
+use Rattle.std.proofs.Math.Seq.{get_or-append_seam}
 use Rattle.std.proofs.lemmas.Bool.{cases_order}
-use Rattle.std.proofs.lemmas.List.{length-append, get_or_append_left}
+use Rattle.std.proofs.lemmas.List.{length-append, length-map, map-append, get_or-map, get_or_append_left}
+use Rattle.cgs_exps.specs.Monomial.{lcm}
 use Rattle.cgs_order.specs.declared.block.BlockOrder.{BlockOrder}
 use Rattle.cgs_poly.specs.Ring.{Ring}
 use Rattle.cgs_poly.specs.Polynomial.{Term, order_of, IsPoly, IsCanonical}
-use Rattle.cgs_poly.specs.Product.{leading_coefficient}
+use Rattle.cgs_poly.specs.Product.{leading_monomial, leading_coefficient}
 use Rattle.cgs_algebra.specs.Combination.{IsMember}
 use Rattle.cgs_algebra.specs.Groebner.{AreMonic}
 use Rattle.cgs_algebra.specs.SPolynomial.{pair_lcm, HasLcmRepresentation}
 use Rattle.cgs_pairs.specs.declared.pair.Pair.{Pair}
-use Rattle.cgs_pairs.specs.PairOrder.{pair, with_pair, PairQueue, IsWaiting}
+use Rattle.cgs_pairs.specs.PairOrder.{pair, with_pairs, PairQueue, IsWaiting}
 use Rattle.cgs_pairs.specs.Passed.{IsPairOf}
-use Rattle.cgs_pairs.proofs.PairLemmas.{pair_here, pair_kept, pair_from}
+use Rattle.cgs_pairs.proofs.PairLemmas.{pairs_here, pairs_from}
 use Rattle.std.specs.List.{AllByRecursion}
 use Rattle.cgs_poly.specs.Monic.{monic_of}
 use Rattle.cgs_poly.specs.Same.{is_among}
 use Rattle.cgs_list.proofs.ListLemmas.{all_push}
-use Rattle.cgs_basis.specs.BasisRun.{Completion, with_pairs, appended, with_generator, with_remainder}
+use Rattle.cgs_basis.specs.BasisRun.{Completion, leads_of, with_last, appended, with_generator, with_remainder}
 use Rattle.cgs_basis.specs.Completion.{IsCompletion}
 use Rattle.cgs_algebra.proofs.GrowthLemmas.{representation_more}
-
--- the pairs of a new member
-
-pub pairs_kept : (order : BlockOrder) (g : List Term) (place i : ℕ) (G : List (List Term)) (pairs : List Pair) (q : Pair)
-    → IsWaiting q pairs → IsWaiting q (with_pairs order g place i G pairs)
-pairs_kept order g place i [] pairs q h = h
-pairs_kept order g place i (f ∷ G) pairs q h =
-    pairs_kept order g place (suc i) G (with_pair order (pair (pair_lcm f g) place i) pairs) q (pair_kept order q (pair (pair_lcm f g) place i) pairs h)
-
-pairs_new : (order : BlockOrder) (g : List Term) (place i : ℕ) (G : List (List Term)) (pairs : List Pair) (k : ℕ) → k < length G
-    → (q : Pair) × IsWaiting q (with_pairs order g place i G pairs) × (q.smaller ≡ i + k) × (q.larger ≡ place)
-pairs_new order g place i [] pairs k l = absurd (omega arith)
-pairs_new order g place i (f ∷ G) pairs zero l =
-    let x : Pair = pair (pair_lcm f g) place i in
-    (x, pairs_kept order g place (suc i) G (with_pair order x pairs) x (pair_here order x pairs), omega arith, refl)
-pairs_new order g place i (f ∷ G) pairs (suc k) l =
-    let q = pairs_new order g place (suc i) G (with_pair order (pair (pair_lcm f g) place i) pairs) k (omega arith) in
-    (q.0, q.1, omega (arith, q.2), q.3)
-
--- they are pairs of the places of a list that has the polynomial at its place
-pairs_of : (order : BlockOrder) (g : List Term) (place i : ℕ) (G : List (List Term)) (pairs : List Pair) (H : List (List Term))
-    → i + length G ≤ place → place < length H → get_or H place [] ≡ g → ((k : ℕ) → k < length G → get_or H (i + k) [] ≡ get_or G k [])
-    → ((q : Pair) → IsWaiting q pairs → IsPairOf H q) → (q : Pair) → IsWaiting q (with_pairs order g place i G pairs) → IsPairOf H q
-pairs_of order g place i [] pairs H l within at same h q k = h q k
-pairs_of order g place i (f ∷ G) pairs H l within at same h q k =
-    let z : i + 0 ≡ i = omega arith in
-    let first : get_or H i [] ≡ f = ap (λ n. get_or H n []) (sym z) ∙ same 0 (omega arith) in
-    let lcm : pair_lcm f g ≡ pair_lcm (get_or H i []) (get_or H place []) =
-    ap (λ m. pair_lcm m g) (sym first) ∙ ap (λ m. pair_lcm (get_or H i []) m) (sym at) in
-    pairs_of order g place (suc i) G (with_pair order (pair (pair_lcm f g) place i) pairs) H (omega arith) within at
-    (λ n b. let e : suc i + n ≡ i + suc n = omega arith in ap (λ m. get_or H m []) e ∙ same (suc n) (omega arith))
-    (λ x j. elim (pair_from order x (pair (pair_lcm f g) place i) pairs j) as (λ _. IsPairOf H x) [
-      | inl e ↦ subst (λ y. IsPairOf H y) (sym e) (record { apart = omega arith; within = within; lcm = lcm })
-      | inr w ↦ h x w
-    ]) q k
 
 -- what is known of the members and of the pairs that wait
 
@@ -108,15 +74,28 @@ module _ (ring : Ring) (F G : List (List Term)) (g : List Term) where
         ∙ ap (λ f. pair_lcm (get_or (G ++ g ∷ []) q.smaller []) f) (sym (get_or_append_left G (g ∷ []) [] q.larger k.within)));
   }
 
+  lead_at : (k : ℕ) → k < length G → get_or (leads_of G) k [] ≡ leading_monomial (get_or (G ++ g ∷ []) k [])
+  lead_at k l = get_or-map leading_monomial G k [] [] l ∙ ap leading_monomial (sym (get_or_append_left G (g ∷ []) [] k l))
+
+  -- the pairs that wait are pairs of the longer list
   appended_known : (pairs : List Pair) → ((q : Pair) → IsWaiting q pairs → IsPairOf G q) → (q : Pair)
-      → IsWaiting q (with_pairs (order_of ring) g (length G) 0 G pairs) → IsPairOf (G ++ g ∷ []) q
+      → IsWaiting q (with_last (order_of ring) G g pairs) → IsPairOf (G ++ g ∷ []) q
   appended_known pairs h q w =
-      pairs_of (order_of ring) g (length G) 0 G pairs (G ++ g ∷ []) (omega arith) (omega (arith, long)) (get_or-append_seam G g [] [])
-      (λ k l. let z : 0 + k ≡ k = omega arith in ap (λ n. get_or (G ++ g ∷ []) n []) z ∙ get_or_append_left G (g ∷ []) [] k l)
-      (λ x j. pair_more x (h x j)) q w
+      elim (pairs_from (order_of ring) (leading_monomial g) (length G) 0 (leads_of G) pairs q w) as (λ _. IsPairOf (G ++ g ∷ []) q) [
+        | inl (k, l, e) ↦
+            let m : k < length G = omega (arith, l, length-map G leading_monomial) in
+            subst (λ x. IsPairOf (G ++ g ∷ []) x) (sym (e ∙ ap (λ n. pair (lcm (get_or (leads_of G) k []) (leading_monomial g)) (length G) n) (zero-add k)))
+            (record {
+              apart = m;
+              within = omega (arith, long);
+              lcm = ap (λ a. lcm a (leading_monomial g)) (lead_at k m)
+                  ∙ ap (λ b. lcm (leading_monomial (get_or (G ++ g ∷ []) k [])) (leading_monomial b)) (sym (get_or-append_seam G g [] []));
+            })
+        | inr v ↦ pair_more q (h q v)
+      ]
 
   pub appended_sound : (pairs : List Pair) → IsSound ring F G pairs → IsCanonical ring g → leading_coefficient g ≡ 1 → IsMember ring F g
-      → IsSound ring F (G ++ g ∷ []) (with_pairs (order_of ring) g (length G) 0 G pairs)
+      → IsSound ring F (G ++ g ∷ []) (with_last (order_of ring) G g pairs)
   appended_sound pairs h can one member = record {
     monic = appended_monic h.monic can one;
     inside = all_push (IsMember ring F) G g h.inside member;
@@ -140,25 +119,30 @@ module _ (ring : Ring) (F G : List (List Term)) (g : List Term) where
 
 -- the pairs of the new member are among those that wait
 pub new_waits : (order : BlockOrder) (G : List (List Term)) (g : List Term) (pairs : List Pair) (k : ℕ) → k < length G
-    → (q : Pair) × IsWaiting q (with_pairs order g (length G) 0 G pairs) × (q.smaller ≡ k) × (q.larger ≡ length G)
-new_waits order G g pairs k l = let q = pairs_new order g (length G) 0 G pairs k l in (q.0, q.1, omega (arith, q.2), q.3)
-
--- the pair of one member after another
-pub pairs_step : (order : BlockOrder) (g : List Term) (place i : ℕ) (G : List (List Term)) (pairs : List Pair) → i < length G
-    → with_pairs order g place i (drop i G) pairs
-    ≡ with_pairs order g place (i + 1) (drop (i + 1) G) (with_pair order (pair (pair_lcm (get_or G i []) g) place i) pairs)
-pairs_step order g place i G pairs l = rw add-one (ap (λ H. with_pairs order g place i H pairs) (drop-cons G i [] l))
+    → (q : Pair) × IsWaiting q (with_last order G g pairs) × (q.smaller ≡ k) × (q.larger ≡ length G)
+new_waits order G g pairs k l = (
+  pair (lcm (get_or (leads_of G) k []) (leading_monomial g)) (length G) (0 + k),
+  pairs_here order (leading_monomial g) (length G) 0 (leads_of G) pairs k (omega (arith, l, length-map G leading_monomial)),
+  zero-add k,
+  refl,
+)
 
 -- a polynomial at the end, with its pairs
-pub appended_completion : (ring : Ring) (G : List (List Term)) (queue : PairQueue) (g : List Term)
-    → IsCompletion ring G queue → IsPoly ring g → leading_coefficient g ≡ 1
-    → IsCompletion ring (G ++ g ∷ []) (record { order = queue.order; pairs = with_pairs (order_of ring) g (length G) 0 G queue.pairs })
-appended_completion ring G queue g h poly one = record {
-  order = h.order;
-  monic = appended_monic ring [] G g h.monic poly.canonical one;
-  polys = all_push (IsPoly ring) G g h.polys poly;
-  known = appended_known ring [] G g queue.pairs h.known;
-}
+
+module _ (ring : Ring) (G : List (List Term)) (queue : PairQueue) (g : List Term) (h : IsCompletion ring G queue) where
+  -- as the queue says it, and as the run says it
+  pub queue_pairs : with_pairs queue.order (leading_monomial g) (length queue.leads) 0 queue.leads queue.pairs ≡ with_last (order_of ring) G g queue.pairs
+  queue_pairs = rw (h.order, h.leads, length-map G leading_monomial) refl
+
+  pub appended_completion : (after : PairQueue) → after.order ≡ queue.order → after.leads ≡ queue.leads ++ leading_monomial g ∷ []
+      → after.pairs ≡ with_last (order_of ring) G g queue.pairs → IsPoly ring g → leading_coefficient g ≡ 1 → IsCompletion ring (G ++ g ∷ []) after
+  appended_completion after o l p poly one = record {
+    order = o ∙ h.order;
+    leads = l ∙ (ap (λ ls. ls ++ leading_monomial g ∷ []) h.leads ∙ sym (map-append leading_monomial G (g ∷ [])));
+    monic = appended_monic ring [] G g h.monic poly.canonical one;
+    polys = all_push (IsPoly ring) G g h.polys poly;
+    known = λ q w. appended_known ring [] G g queue.pairs h.known q (subst (λ pairs. IsWaiting q pairs) p w);
+  }
 
 -- a generator or a remainder that is not 0
 

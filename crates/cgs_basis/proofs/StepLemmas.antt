@@ -1,5 +1,6 @@
 -- The step of a pair in a completion, as code makes it.
-use Rattle.std.proofs.Common.{ℕ, ◌≡◌, ◌+◌, ◌-◌, ◌<◌, ◌≤◌, suc, inr, true, false, cond, List, [], ◌∷◌, length, get_or, drop, add-one, sym, ap, ◌∙◌, subst}
+use Rattle.std.proofs.Common.{ℕ, ◌≡◌, ◌+◌, ◌-◌, ◌<◌, ◌≤◌, suc, inr, Some, true, false, cond, List, [], ◌∷◌, length, get_or, drop, add-one, sym, ap, ◌∙◌, subst}
+use Rattle.std.specs.Prelude.{Option, IfSome}
 use Rattle.std.proofs.Math.Seq.{drop-cons}
 use Rattle.cgs_poly.specs.Ring.{Ring}
 use Rattle.cgs_poly.specs.Polynomial.{Term, HasLowDegrees, canonical}
@@ -14,6 +15,10 @@ use Rattle.cgs_basis.specs.BasisRun.{Completion, completion_of, with_generator, 
 use Rattle.cgs_basis.specs.BasisRun.{with_taken, passed_over, after_least}
 use Rattle.cgs_basis.specs.Completion.{IsCompletion}
 use Rattle.cgs_basis.proofs.RunLemmas.{completed, completed_from, stops_at_budget, stops_at_degree, goes_on}
+
+-- what is known of a pair that was found
+pub told : {T : Type 0} (P : T → Type 0) (least : Option T) (x : T) → least ≡ Some x → IfSome least P → P x
+told P least x e h = subst (λ r. IfSome r P) e h
 
 -- one generator after another
 pub generators_step : (ring : Ring) (F : List (List Term)) (i : ℕ) (f : List Term) (s t : Completion)
@@ -68,6 +73,12 @@ passes_on G q pairs rest taken now e p n =
 
 -- the pairs that are left are pairs of places
 pub out_rest : (ring : Ring) (G : List (List Term)) (queue after : PairQueue) (q : Pair) → queue.pairs ≡ q ∷ after.pairs
-    → after.order ≡ queue.order → IsCompletion ring G queue → IsCompletion ring G after
-out_rest ring G queue after q some e h =
-    record { order = e ∙ h.order; monic = h.monic; polys = h.polys; known = λ x w. h.known x (subst (λ pairs. IsWaiting x pairs) (sym some) (inr w)) }
+    → after.order ≡ queue.order → after.leads ≡ queue.leads → IsCompletion ring G queue → IsCompletion ring G after
+out_rest ring G queue after q some e l h =
+    record {
+      order = e ∙ h.order;
+      leads = l ∙ h.leads;
+      monic = h.monic;
+      polys = h.polys;
+      known = λ x w. h.known x (subst (λ pairs. IsWaiting x pairs) (sym some) (inr w));
+    }

@@ -1,19 +1,16 @@
 //! Completion: Buchberger's algorithm up to a Gröbner basis that need not be reduced.
 
-ghost use Rattle.std.specs.Prelude.{◌≡◌, ◌<◌, ◌≤◌, [], ◌∷◌, length, IfOk, IfSome, IsNone, OnOk};
-ghost use Rattle.cgs_poly.specs.Polynomial.{IsRing, IsPoly, order_of, ArePolys};
-ghost use Rattle.cgs_poly.specs.Product.{leading_monomial, leading_coefficient};
+ghost use Rattle.std.specs.Prelude.{◌≡◌, ◌≤◌, [], ◌∷◌, IfOk, IfSome, IsNone, OnOk};
+ghost use Rattle.cgs_poly.specs.Polynomial.{IsRing, IsPoly, ArePolys};
+ghost use Rattle.cgs_poly.specs.Product.{leading_coefficient};
 ghost use Rattle.cgs_algebra.specs.Groebner.{AreMonic, IsGroebnerBasis};
-ghost use Rattle.cgs_algebra.specs.SPolynomial.{pair_lcm};
 ghost use Rattle.cgs_divide.specs.Ending.{EndsAs};
-ghost use Rattle.cgs_pairs.specs.PairOrder.{pair};
 ghost use Rattle.cgs_pairs.specs.Passed.{IsPairOf};
-ghost use Rattle.cgs_basis.specs.BasisRun.{appended, with_pairs, with_generator, with_remainder, completion};
+ghost use Rattle.cgs_basis.specs.BasisRun.{appended, with_generator, with_remainder, completion};
 ghost use Rattle.cgs_basis.specs.BasisRun as run;
 ghost use Rattle.cgs_basis.specs.Completion.{IsCompletion};
 
 use cgs_divide::{Stop, remainder, spend};
-use cgs_exps::{MAX_PLACES, Powers, lcm_into};
 use cgs_pairs::{Pair, Queue, Taken, passes, s_polynomial};
 use cgs_poly::{Poly, PolyList, Ring, is_among};
 use std::alloc::{AllocError, Global};
@@ -69,7 +66,7 @@ fn take_unpassed(
     ensures pair { IfOk result (λ least. IfSome least (λ q. IsPairOf members.now q)) }
     ensures completion { OnOk result (IsCompletion ring.now members.now queue.new) }
 {
-    while let Some(next) = queue.take_least() {
+    while let Some(next) = queue.take_least()? {
         if !passes(&next, members, taken) {
             return Ok(Some(next));
         }
@@ -97,7 +94,7 @@ fn append_generator(
     }
     let monic = Poly::monic(alloc, ring, f)?;
     if !is_among(&monic, members) {
-        append(alloc, ring, members, queue, monic)?;
+        append(ring, members, queue, monic)?;
     }
     Ok(())
 }
@@ -120,18 +117,12 @@ fn append_remainder(
         return Ok(());
     }
     let member = Poly::monic(alloc, ring, f)?;
-    append(alloc, ring, members, queue, member)?;
+    append(ring, members, queue, member)?;
     Ok(())
 }
 
 // Puts a monic polynomial at the end, and its pairs with the members before it into the queue.
-fn append(
-    alloc: Global,
-    ring: &Ring,
-    members: &mut PolyList,
-    queue: &mut Queue,
-    g: Poly,
-) -> Result<(), AllocError>
+fn append(ring: &Ring, members: &mut PolyList, queue: &mut Queue, g: Poly) -> Result<(), AllocError>
     requires ring { IsRing ring.now }
     requires completion { IsCompletion ring.now members.old queue.old }
     requires poly { IsPoly ring.now g }
@@ -139,56 +130,7 @@ fn append(
     ensures state { OnOk result (run.completion_of members.new queue.new ≡ appended ring.now (run.completion_of members.old queue.old) g) }
     ensures completion { OnOk result (IsCompletion ring.now members.new queue.new) }
 {
-    queue_pairs(alloc, ring, members, queue, &g)?;
+    queue.append(g.term(0).exponents)?;
     members.push(g)?;
     Ok(())
-}
-
-// Puts the pairs of a polynomial at the end with the members before it into the queue.
-fn queue_pairs(
-    alloc: Global,
-    ring: &Ring,
-    members: &PolyList,
-    queue: &mut Queue,
-    g: &Poly,
-) -> Result<(), AllocError>
-    requires ring { IsRing ring.now }
-    requires completion { IsCompletion ring.now members.now queue.old }
-    requires poly { IsPoly ring.now g.now }
-    requires lead { leading_coefficient g.now ≡ 1 }
-    ensures { OnOk result (queue.new ≡ record { order = queue.old.order; pairs = with_pairs (order_of ring.now) g.now (length members.now) 0 members.now queue.old.pairs }) }
-{
-    let place = members.len();
-    for i in 0..place {
-        let pair = pair_of(alloc, members.get(i), g, place, i)?;
-        queue.push(pair)?;
-    }
-    Ok(())
-}
-
-// The pair of two polynomials at two places.
-fn pair_of(
-    alloc: Global,
-    f: &Poly,
-    g: &Poly,
-    larger: usize,
-    smaller: usize,
-) -> Result<Pair, AllocError>
-    requires first { 0 < length f.now }
-    requires second { 0 < length g.now }
-    requires same_places { length (leading_monomial f.now) ≡ length (leading_monomial g.now) }
-    requires places { length (leading_monomial f.now) ≤ MAX_PLACES }
-    ensures { IfOk result (λ q. q ≡ pair (pair_lcm f.now g.now) larger smaller) }
-{
-    let (a, b) = (f.term(0).exponents, g.term(0).exponents);
-    let mut room = [0; MAX_PLACES];
-    let lcm = &mut room[..a.len()];
-    lcm_into(a, b, lcm);
-    let mut powers = Powers::new(alloc);
-    powers.extend_from_slice(lcm)?;
-    Ok(Pair {
-        lcm: powers,
-        larger,
-        smaller,
-    })
 }

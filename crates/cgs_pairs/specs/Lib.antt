@@ -1,5 +1,6 @@
 pub mod PairOrder
 pub mod Rank
+pub mod Runs
 pub mod Passed
 pub mod Table
 pub mod Examples

@@ -19,7 +19,7 @@ use Rattle.cgs_divide.proofs.MonicLemmas.{monic_one}
 use Rattle.cgs_divide.proofs.EndingLemmas.{has_followed, past_budget, past_degree}
 use Rattle.cgs_divide.proofs.LowLemmas.{autoreduction_polys}
 use Rattle.cgs_pairs.specs.declared.pair.Pair.{Pair}
-use Rattle.cgs_pairs.specs.PairOrder.{PairQueue}
+use Rattle.cgs_pairs.specs.Runs.{WaitingPairs}
 use Rattle.cgs_pairs.specs.Passed.{is_passed, IsPairOf}
 use Rattle.cgs_basis.specs.BasisRun.{Completion, Pairs, leads_of, appended, with_generator, with_generators, with_remainder, pair_terms, with_taken}
 use Rattle.cgs_basis.specs.BasisRun.{passed_over, after_least, completed_in, start, completion, basis_run}
@@ -37,7 +37,7 @@ low_enough false units run R left e = refl
 
 module _ (ring : Ring) (r : IsRing ring) where
   -- the queue of a state
-  abbrev queue_of : Completion → PairQueue
+  abbrev queue_of : Completion → WaitingPairs
   queue_of s = record { order = order_of ring; leads = leads_of s.members; pairs = s.pairs }
 
   -- a state whose members are monic polynomials of the ring

@@ -13,7 +13,8 @@ use Rattle.cgs_algebra.specs.Combination.{IsMember}
 use Rattle.cgs_algebra.specs.Groebner.{AreMonic}
 use Rattle.cgs_algebra.specs.SPolynomial.{pair_lcm, HasLcmRepresentation}
 use Rattle.cgs_pairs.specs.declared.pair.Pair.{Pair}
-use Rattle.cgs_pairs.specs.PairOrder.{pair, with_pairs, PairQueue, IsWaiting}
+use Rattle.cgs_pairs.specs.PairOrder.{pair, with_pairs, IsWaiting}
+use Rattle.cgs_pairs.specs.Runs.{WaitingPairs}
 use Rattle.cgs_pairs.specs.Passed.{IsPairOf}
 use Rattle.cgs_pairs.proofs.PairLemmas.{pairs_here, pairs_from}
 use Rattle.std.specs.List.{AllByRecursion}
@@ -129,12 +130,12 @@ new_waits order G g pairs k l = (
 
 -- a polynomial at the end, with its pairs
 
-module _ (ring : Ring) (G : List (List Term)) (queue : PairQueue) (g : List Term) (h : IsCompletion ring G queue) where
+module _ (ring : Ring) (G : List (List Term)) (queue : WaitingPairs) (g : List Term) (h : IsCompletion ring G queue) where
   -- as the queue says it, and as the run says it
   pub queue_pairs : with_pairs queue.order (leading_monomial g) (length queue.leads) 0 queue.leads queue.pairs ≡ with_last (order_of ring) G g queue.pairs
   queue_pairs = rw (h.order, h.leads, length-map G leading_monomial) refl
 
-  pub appended_completion : (after : PairQueue) → after.order ≡ queue.order → after.leads ≡ queue.leads ++ leading_monomial g ∷ []
+  pub appended_completion : (after : WaitingPairs) → after.order ≡ queue.order → after.leads ≡ queue.leads ++ leading_monomial g ∷ []
       → after.pairs ≡ with_last (order_of ring) G g queue.pairs → IsPoly ring g → leading_coefficient g ≡ 1 → IsCompletion ring (G ++ g ∷ []) after
   appended_completion after o l p poly one = record {
     order = o ∙ h.order;

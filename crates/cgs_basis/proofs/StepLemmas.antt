@@ -9,7 +9,8 @@ use Rattle.cgs_divide.specs.DivisionRun.{divided, remainder_of, is_too_high}
 use Rattle.cgs_divide.specs.Ending.{ended, out_of_budget, out_of_degree, followed}
 use Rattle.cgs_divide.proofs.StepLemmas.{high_unless_low, low_not_high}
 use Rattle.cgs_pairs.specs.declared.pair.Pair.{Pair}
-use Rattle.cgs_pairs.specs.PairOrder.{PairQueue, IsWaiting}
+use Rattle.cgs_pairs.specs.PairOrder.{IsWaiting}
+use Rattle.cgs_pairs.specs.Runs.{WaitingPairs}
 use Rattle.cgs_pairs.specs.Passed.{is_passed}
 use Rattle.cgs_basis.specs.BasisRun.{Completion, completion_of, with_generator, with_generators, with_remainder, pair_terms}
 use Rattle.cgs_basis.specs.BasisRun.{with_taken, passed_over, after_least}
@@ -28,7 +29,7 @@ generators_step ring F i f s t l e h =
     rw add-one (ap (λ H. with_generators ring s H) (drop-cons F i [] l)
     ∙ ap (λ u. with_generators ring u (drop (suc i) F)) (ap (λ g. with_generator ring s g) e ∙ sym h))
 
-module _ (ring : Ring) (G : List (List Term)) (queue after : PairQueue) (taken now : List (ℕ × ℕ)) (q : Pair)
+module _ (ring : Ring) (G : List (List Term)) (queue after : WaitingPairs) (taken now : List (ℕ × ℕ)) (q : Pair)
     (some : passed_over G queue.pairs taken ≡ record { waiting = q ∷ after.pairs; taken = now }) where
   -- the run, from the pair that is taken on
   from_pair : (units : ℕ) → completed ring (completion_of G queue) taken units
@@ -60,7 +61,7 @@ module _ (ring : Ring) (G : List (List Term)) (queue after : PairQueue) (taken n
         from_pair units ∙ goes_on ring G q after.pairs now units (completed ring) (remainder_of (divided ring G paid s)) enough flat a
 
 -- no pair is left
-pub none_left : (ring : Ring) (G : List (List Term)) (queue : PairQueue) (taken now : List (ℕ × ℕ)) (units : ℕ)
+pub none_left : (ring : Ring) (G : List (List Term)) (queue : WaitingPairs) (taken now : List (ℕ × ℕ)) (units : ℕ)
     → passed_over G queue.pairs taken ≡ record { waiting = []; taken = now } → completed ring (completion_of G queue) taken units ≡ ended G units
 none_left ring G queue taken now units e = completed_from ring (completion_of G queue) taken (record { waiting = []; taken = now }) units e
 
@@ -72,7 +73,7 @@ passes_on G q pairs rest taken now e p n =
     ∙ (ap (λ b. cond b (passed_over G rest (with_taken taken q)) (record { waiting = q ∷ rest; taken = taken })) p ∙ ap (λ t. passed_over G rest t) (sym n))
 
 -- the pairs that are left are pairs of places
-pub out_rest : (ring : Ring) (G : List (List Term)) (queue after : PairQueue) (q : Pair) → queue.pairs ≡ q ∷ after.pairs
+pub out_rest : (ring : Ring) (G : List (List Term)) (queue after : WaitingPairs) (q : Pair) → queue.pairs ≡ q ∷ after.pairs
     → after.order ≡ queue.order → after.leads ≡ queue.leads → IsCompletion ring G queue → IsCompletion ring G after
 out_rest ring G queue after q some e l h =
     record {

@@ -11,7 +11,7 @@ ghost use Rattle.cgs_basis.specs.BasisRun as run;
 ghost use Rattle.cgs_basis.specs.Completion.{IsCompletion};
 
 use cgs_divide::{Stop, remainder, spend};
-use cgs_pairs::{Pair, Queue, Taken, passes, s_polynomial};
+use cgs_pairs::{Pair, Taken, Waiting, passes, s_polynomial};
 use cgs_poly::{Poly, PolyList, Ring, is_among};
 use std::alloc::{AllocError, Global};
 
@@ -32,7 +32,7 @@ pub fn complete(
     ensures units { fuel.new ≤ fuel.old }
 {
     let mut members = PolyList::new(alloc);
-    let mut queue = Queue::new(alloc, ring.order());
+    let mut queue = Waiting::new(alloc, ring.order());
     let mut taken = Taken::new(alloc);
     for i in 0..generators.len() {
         append_generator(alloc, ring, &mut members, &mut queue, generators.get(i))?;
@@ -56,7 +56,7 @@ pub fn complete(
 fn take_unpassed(
     ring: &Ring,
     members: &PolyList,
-    queue: &mut Queue,
+    queue: &mut Waiting,
     taken: &mut Taken,
 ) -> Result<Option<Pair>, AllocError>
     requires ring { IsRing ring.now }
@@ -80,7 +80,7 @@ fn append_generator(
     alloc: Global,
     ring: &Ring,
     members: &mut PolyList,
-    queue: &mut Queue,
+    queue: &mut Waiting,
     f: &Poly,
 ) -> Result<(), AllocError>
     requires ring { IsRing ring.now }
@@ -104,7 +104,7 @@ fn append_remainder(
     alloc: Global,
     ring: &Ring,
     members: &mut PolyList,
-    queue: &mut Queue,
+    queue: &mut Waiting,
     f: &Poly,
 ) -> Result<(), AllocError>
     requires ring { IsRing ring.now }
@@ -122,7 +122,7 @@ fn append_remainder(
 }
 
 // Puts a monic polynomial at the end, and its pairs with the members before it into the queue.
-fn append(ring: &Ring, members: &mut PolyList, queue: &mut Queue, g: Poly) -> Result<(), AllocError>
+fn append(ring: &Ring, members: &mut PolyList, queue: &mut Waiting, g: Poly) -> Result<(), AllocError>
     requires ring { IsRing ring.now }
     requires completion { IsCompletion ring.now members.old queue.old }
     requires poly { IsPoly ring.now g }

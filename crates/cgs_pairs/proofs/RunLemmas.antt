@@ -357,7 +357,7 @@ appended order leads now m place runs after is at all e =
     e ∙ rw (last, front, old, at) refl
 
 pub is_queue : (order : BlockOrder) (leads : List (List ℕ)) (runs : List (Rank × Run)) → AreLeads order leads → AreRuns order leads runs
-    → IsQueue (record { order = order; leads = leads; pairs = sorted order (pairs_in leads runs) })
+    → IsQueue (record { order = order; pairs = sorted order (pairs_in leads runs) })
 is_queue order leads runs right h = record {
   ascending = sorted_ascending order (pairs_in leads runs);
   places = sorted_places order (pairs_in leads runs) (runs_places order leads right runs h.entries);

@@ -1,4 +1,4 @@
--- How a queue keeps the pairs that wait: for each member apart, in the order in which they are taken.
+-- How the pairs of a list of members wait: for each member apart, in the order in which they are taken.
 use Rattle.std.specs.Prelude.{ℕ, ◌≡◌, ◌+◌, ◌<◌, ◌≤◌, List, [], ◌∷◌, ◌++◌, length, slice_index_or}
 use Rattle.std.specs.List.{AllByRecursion, Contains}
 use Rattle.std.specs.Ordering.{match_ordering}
@@ -9,6 +9,12 @@ use Rattle.cgs_pairs.specs.declared.rank.Rank.{Rank}
 use Rattle.cgs_pairs.specs.declared.runs.Run.{Run}
 use Rattle.cgs_pairs.specs.PairOrder.{pair, pair_compared, IsAscending}
 use Rattle.cgs_pairs.specs.Rank.{IsRankOf}
+
+-- the order, the leads of the members, and the pairs of their places that wait in the order in which they are taken
+pub record WaitingPairs : Type 0 where
+  pub order : BlockOrder
+  pub leads : List (List ℕ)
+  pub pairs : List Pair
 
 -- the pair of two places, by the leads there
 abbrev pub pair_at : List (List ℕ) → ℕ → ℕ → Pair

@@ -6,6 +6,7 @@ ghost use Rattle.cgs_pairs.specs.PairOrder.{pair};
 ghost use Rattle.cgs_pairs.specs.Rank.{IsRankOf};
 
 use crate::key::key_of;
+use crate::pair::Pair;
 use cgs_exps::{MAX_PLACES, lcm_into};
 use cgs_order::BlockOrder;
 use std::alloc::{AllocError, Global};
@@ -18,8 +19,20 @@ pub(crate) struct Rank {
     pub(crate) smaller: usize,
 }
 
+/// The rank of a pair.
+pub(crate) fn rank_of(alloc: Global, order: &BlockOrder, pair: &Pair) -> Result<Rank, AllocError>
+    requires places { length pair.now.lcm ≡ order.now.head + order.now.tail }
+    ensures { IfOk result (λ rank. IsRankOf order.now pair.now rank) }
+{
+    Ok(Rank {
+        key: key_of(alloc, order, pair.lcm.as_slice())?,
+        larger: pair.larger,
+        smaller: pair.smaller,
+    })
+}
+
 /// The rank of the pair of two places where these leads stand, that at the smaller place first.
-pub(crate) fn rank_of(
+pub(crate) fn rank_at(
     alloc: Global,
     order: &BlockOrder,
     first: &[u16],

@@ -5,7 +5,7 @@ ghost use Rattle.std.specs.List.{AllByRecursion};
 ghost use Rattle.cgs_pairs.specs.PairOrder.{with_pairs};
 ghost use Rattle.cgs_pairs.specs.Runs.{pairs_at, pairs_in, sorted, AreLeads, IsRun, IsFresh, AreRuns, AreRanks, AreAllPlaces};
 
-use crate::rank::{Rank, rank_of};
+use crate::rank::{Rank, rank_at};
 use cgs_exps::Powers;
 use cgs_order::BlockOrder;
 use std::alloc::{AllocError, Global};
@@ -63,7 +63,7 @@ pub(crate) fn put(
         return Ok(());
     };
     let (first, second) = (lead_at(leads, smaller), lead_at(leads, larger));
-    let rank = rank_of(alloc, order, first, second, larger, smaller)?;
+    let rank = rank_at(alloc, order, first, second, larger, smaller)?;
     runs.insert(rank, run)?;
     Ok(())
 }
@@ -104,7 +104,7 @@ fn ranks_of(
     let mut ranks = Vec::with_capacity(alloc, larger)?;
     for smaller in 0..larger {
         let first = lead_at(leads, smaller);
-        ranks.push(rank_of(alloc, order, first, second, larger, smaller)?)?;
+        ranks.push(rank_at(alloc, order, first, second, larger, smaller)?)?;
     }
     Ok(ranks)
 }

@@ -8,8 +8,9 @@ use crate::given::{PLANE, is_text, poly_at, problem_of};
 use cgs_basis::{complete, reduced_basis};
 use cgs_divide::{Stop, autoreduce};
 use cgs_entry::Cause;
+use cgs_exps::Powers;
 use cgs_order::{BlockOrder, Kind};
-use cgs_pairs::{Queue, Taken, s_polynomial};
+use cgs_pairs::{Pair, Queue, Taken, Waiting, s_polynomial};
 use cgs_poly::{Poly, PolyList};
 use cgs_print::{basis_text, refusal_text};
 use cgs_problem::{Problem, Text};
@@ -219,29 +220,68 @@ fn told(alloc: Global, row: &Row<'_>) -> Result<(Text, u64), Fail> {
     Ok((out, units))
 }
 
-// The pairs of members with these leads, where lex decides.
-fn queue_of(alloc: Global, leads: &[[u16; 2]]) -> Result<Queue, AllocError> {
+// Pairs with these lcms and larger places, and the smaller places from the number of pairs less 1 down to 0.
+fn queue_of(alloc: Global, rows: &[([u16; 2], usize)]) -> Result<Queue, AllocError> {
     let order = BlockOrder {
         kind: Kind::Lex,
         head: 2,
         tail: 0,
     };
     let mut queue = Queue::new(alloc, order);
-    for lead in leads {
-        queue.append(lead)?;
+    for (i, (exponents, larger)) in rows.iter().enumerate() {
+        let mut lcm = Powers::new(alloc);
+        lcm.extend_from_slice(exponents)?;
+        queue.push(Pair {
+            lcm,
+            larger: *larger,
+            smaller: rows.len() - 1 - i,
+        })?;
     }
     Ok(queue)
 }
 
 #[test]
 fn pairs(rt: HostRuntime) -> Result<(), Fail> {
+    // x^2, three times x*y^2, and x^2*y^2
+    let rows = [
+        ([2, 0], 7),
+        ([1, 2], 5),
+        ([1, 2], 5),
+        ([1, 2], 6),
+        ([2, 2], 5),
+    ];
+    let mut queue = queue_of(rt.alloc(), &rows)?;
+    for smaller in [2, 3, 1, 4, 0] {
+        let pair = queue.take_least().ok_or("no pair")?;
+        assert_eq!(rt; pair.smaller, smaller);
+    }
+    assert!(rt; queue.take_least().is_none());
+    Ok(())
+}
+
+// The pairs of members with these leads, where lex decides.
+fn waiting_of(alloc: Global, leads: &[[u16; 2]]) -> Result<Waiting, AllocError> {
+    let order = BlockOrder {
+        kind: Kind::Lex,
+        head: 2,
+        tail: 0,
+    };
+    let mut waiting = Waiting::new(alloc, order);
+    for lead in leads {
+        waiting.append(lead)?;
+    }
+    Ok(waiting)
+}
+
+#[test]
+fn waiting_pairs(rt: HostRuntime) -> Result<(), Fail> {
     // x^2, x*y, x*y^2 and y^2: three pairs have the lcm x*y^2, one x^2*y, and two x^2*y^2
-    let mut queue = queue_of(rt.alloc(), &[[2, 0], [1, 1], [1, 2], [0, 2]])?;
+    let mut waiting = waiting_of(rt.alloc(), &[[2, 0], [1, 1], [1, 2], [0, 2]])?;
     for places in [(2, 1), (3, 1), (3, 2), (1, 0), (2, 0), (3, 0)] {
-        let pair = queue.take_least()?.ok_or("no pair")?;
+        let pair = waiting.take_least()?.ok_or("no pair")?;
         assert_eq!(rt; (pair.larger, pair.smaller), places);
     }
-    assert!(rt; queue.take_least()?.is_none());
+    assert!(rt; waiting.take_least()?.is_none());
     Ok(())
 }
 

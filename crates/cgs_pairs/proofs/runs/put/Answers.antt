@@ -11,21 +11,21 @@ run_is c = subst (λ is. IsRun c.args.order.now c.args.leads.now c.args.larger i
 pub lead_at-first-requires : goal.lead_at-first-requires
 lead_at-first-requires c = (run_is (goal.at.lead_at-first-requires c).In-Some).within.0
 
-pub rank_of-requires-clause-first_places : goal.rank_of-requires-clause-first_places
-rank_of-requires-clause-first_places c =
+pub rank_at-requires-clause-first_places : goal.rank_at-requires-clause-first_places
+rank_at-requires-clause-first_places c =
     ap length c.lead_at-first.ensures
     ∙ (lead_places c.args.order.now c.args.leads.now c.requires.leads c.in-Some.smaller
-    (run_is (goal.at.rank_of-requires-clause-first_places c).In-Some).within.0).0
+    (run_is (goal.at.rank_at-requires-clause-first_places c).In-Some).within.0).0
 
-pub rank_of-requires-clause-second_places : goal.rank_of-requires-clause-second_places
-rank_of-requires-clause-second_places c =
+pub rank_at-requires-clause-second_places : goal.rank_at-requires-clause-second_places
+rank_at-requires-clause-second_places c =
     ap length c.lead_at-second.ensures ∙ (lead_places c.args.order.now c.args.leads.now c.requires.leads c.args.larger c.requires.within).0
 
-pub rank_of-requires-clause-places : goal.rank_of-requires-clause-places
-rank_of-requires-clause-places c =
+pub rank_at-requires-clause-places : goal.rank_at-requires-clause-places
+rank_at-requires-clause-places c =
     let l = ap length c.lead_at-first.ensures in
     let k = (lead_places c.args.order.now c.args.leads.now c.requires.leads c.in-Some.smaller
-    (run_is (goal.at.rank_of-requires-clause-places c).In-Some).within.0).1 in
+    (run_is (goal.at.rank_at-requires-clause-places c).In-Some).within.0).1 in
     omega (arith, l, k)
 
 rank_is : (c : In_ok-insert) → IsRankOf c.args.order.now (pair_at c.args.leads.now c.args.larger c.in-Some.smaller) c.in_ok-rank.rank

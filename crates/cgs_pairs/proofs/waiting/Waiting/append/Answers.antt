@@ -1,10 +1,10 @@
 use Rattle.std.proofs.Common.{◌≡◌, ◌<◌, ◌++◌, ◌∷◌, [], length, sym, ap, ◌∙◌, subst, arith}
 use Rattle.cgs_list.proofs.ListLemmas.{all_weaker}
-use Rattle.cgs_pairs.specs.PairOrder.{PairQueue, with_pairs}
-use Rattle.cgs_pairs.specs.Runs.{pairs_in, sorted, IsEntry, AreRuns}
+use Rattle.cgs_pairs.specs.PairOrder.{with_pairs}
+use Rattle.cgs_pairs.specs.Runs.{WaitingPairs, pairs_in, sorted, IsEntry, AreRuns}
 use Rattle.cgs_pairs.proofs.RunLemmas.{runs_more, appended}
-use Rattle.cgs_pairs.proofs.queue.Queue.append.Goals as goal
-use Rattle.cgs_pairs.proofs.queue.Queue.append.Goals.{After-deref}
+use Rattle.cgs_pairs.proofs.waiting.Waiting.append.Goals as goal
+use Rattle.cgs_pairs.proofs.waiting.Waiting.append.Goals.{After-deref}
 
 leads_are : (c : After-deref) → c.deref.result.now ≡ c.self.inside.leads.items ++ c.args.lead.now ∷ []
 leads_are c =
@@ -29,7 +29,7 @@ returns-clause-ok c =
     (sorted c.self.inside.order (pairs_in c.self.inside.leads.items c.self.inside.runs.entries)) =
     appended c.self.inside.order c.self.inside.leads.items c.deref.result.now c.args.lead.now c.len-place.result c.self.inside.runs.entries
     c.put_all.new.runs.entries (leads_are at) place c.self.invariant.runs.entries c.in-Ok.ensures.ok in
-    let P : PairQueue → Type 0 = λ v. record {
+    let P : WaitingPairs → Type 0 = λ v. record {
       order = c.self.inside.order;
       leads = c.push.new.self.items;
       pairs = sorted c.self.inside.order (pairs_in c.push.new.self.items c.put_all.new.runs.entries);

@@ -1,5 +1,6 @@
--- What the bytes written by each command but `check` are, in the words of the field: neither a run nor a unit stands here, and a tree only to
--- say that its list does not depend on the workers.
+-- What the bytes written by each command but `check` are, in the words of the field. What is said of an entry names no run, no unit and no tree.
+-- The limits and the tree stand here only to say of which tree the list is (`of_tree`), for every number of workers and every order in which they
+-- work, and that the history is one of that tree (`followed`).
 use Rattle.std.specs.Prelude.{◌≡◌, ◌<◌, ◌⊎◌, ◌↔◌, ◌||◌, ℕ, false, List, length, slice_get, Some, None, Ok}
 use Rattle.std.specs.List.{AllByRecursion, list_any}
 use Rattle.std.specs.Io.KnownBytes.{Keeps, Appends}

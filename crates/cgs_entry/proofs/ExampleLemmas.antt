@@ -20,8 +20,8 @@ use Rattle.cgs_entry.specs.Conditions.{IsInRegion}
 use Rattle.cgs_entry.specs.declared.entry.Entry.{Entry}
 use Rattle.cgs_entry.specs.Entries.{IsBasisAt, IsSound, IsComprehensive, entries_at}
 use Rattle.cgs_entry.specs.Examples.{seven, only_a, only_x, one, line, line_times_a, solved, LineIsSolved, GapIsRefused, OverlapIsRefused, WrongBasisIsRefused}
-use Rattle.cgs_entry.specs.Examples.{line_times_x, VanishingLeadIsRefused, RepeatedLeadIsRefused, DividedLeadIsRefused, NoCoefficientIsRefused, TurnedTermsAreRefused}
-use Rattle.cgs_entry.specs.Examples.{VariableInConditionIsRefused}
+use Rattle.cgs_entry.specs.Examples.{line_times_x, VanishingLeadIsRefused, RepeatedLeadIsRefused, DividedLeadIsRefused}
+use Rattle.cgs_entry.specs.Examples.{NoCoefficientIsRefused, TurnedTermsAreRefused, VariableInConditionIsRefused}
 use Rattle.std.specs.declared.cmp.Ordering.TheVariants.{Less, Greater}
 use Rattle.cgs_entry.proofs.SingleLemmas.{single_minimal}
 use Rattle.cgs_algebra.proofs.PlaceLemmas.{lead_at_place, only_lead}
@@ -108,7 +108,8 @@ six_member =
 pub wrong_basis_refused : WrongBasisIsRefused
 unfolding key compared
 wrong_basis_refused h =
-    let s : IsBasisAt seven (0 ∷ []) (line ∷ []) (only_x ∷ []) = h.sound.1.0.serves.at (0 ∷ []) (is_point 0 (omega arith)) (record { vanish = (refl, tt); stand = tt }) in
+    let inside : IsInRegion seven (only_a ∷ []) [] (0 ∷ []) = record { vanish = (refl, tt); stand = tt } in
+    let s : IsBasisAt seven (0 ∷ []) (line ∷ []) (only_x ∷ []) = h.sound.1.0.serves.at (0 ∷ []) (is_point 0 (omega arith)) inside in
     let d = s.minimal.groebner.leads six (omega arith, omega arith, refl, tt, tt) six_member (λ e. cc) in
     let e = only_lead (term 1 (1 ∷ []) ∷ []) (leading_monomial six) d in cc
 

@@ -5,7 +5,6 @@ use Rattle.cgs_poly.specs.Ring.{Ring}
 use Rattle.cgs_poly.specs.Polynomial.{Term, IsRing, IsCanonical, ArePolys}
 use Rattle.cgs_algebra.specs.Specialisation.{IsParametric}
 use Rattle.cgs_entry.specs.declared.entry.Entry.{Entry}
-use Rattle.cgs_entry.specs.declared.entry.EntryKind.{EntryKind}
 use Rattle.cgs_entry.specs.declared.entry.EntryKind.TheVariants.{Solved, Refused}
 use Rattle.cgs_poly.specs.Parameters.{IsCondition}
 use Rattle.cgs_entry.specs.Bases.{ShowsOne}

@@ -5,3 +5,4 @@ pub mod ExampleLemmas
 pub mod CoverLemmas
 pub mod OneLemmas
 pub mod BasisLemmas
+pub mod IndexLemmas

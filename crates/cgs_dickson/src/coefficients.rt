@@ -6,7 +6,7 @@ ghost use Rattle.cgs_poly.specs.Polynomial.{IsRing, IsPoly, ArePolys};
 ghost use Rattle.cgs_poly.specs.Parameters.{IsCondition};
 ghost use Rattle.cgs_dickson.specs.Dickson.{is_constant, coefficient_list};
 
-use cgs_entry::add;
+use cgs_entry::GrowingList;
 use cgs_exps::degree;
 use cgs_poly::{Poly, PolyList, Ring};
 use std::alloc::{AllocError, Global};
@@ -23,14 +23,15 @@ pub fn coefficient_list(
     ensures list { IfOk result (λ list. list ≡ coefficient_list ring.now members.now) }
     ensures conditions { IfOk result (λ list. AllByRecursion (IsCondition ring.now) list) }
 {
-    let mut list = PolyList::new(alloc);
+    let none = PolyList::new(alloc);
+    let mut list = GrowingList::new(alloc, &none)?;
     for i in 0..members.len() {
         let coefficient = Poly::lc_x(alloc, ring, members.get(i))?;
         if !is_constant(ring, &coefficient) {
-            add(alloc, ring, &mut list, &coefficient)?;
+            list.add(alloc, ring, &coefficient)?;
         }
     }
-    Ok(list)
+    Ok(list.into_members())
 }
 
 // Whether no monomial but 1 stands in f.

@@ -15,7 +15,7 @@ use crate::branch::Branch;
 use crate::kind::BranchKind;
 use crate::lists::{other_members, parametric_members, with_condition, with_conditions};
 use cgs_dickson::{coefficient_list, minimal_dickson};
-use cgs_entry::{Conditions, add};
+use cgs_entry::{Conditions, GrowingList};
 use cgs_list::Duplicate;
 use cgs_poly::{PolyList, Ring};
 use cgs_radical::one_alone;
@@ -72,14 +72,14 @@ impl Branch {
         requires parametric { AllByRecursion (IsCondition ring.now) parametric.now }
         ensures { OnOk result (all.new.items ≡ all.old.items ++ unit_children ring.now self.now zero.now nonzero.now parametric.now) }
     {
-        let mut before = zero.copy()?;
+        let mut before = GrowingList::new(alloc, zero)?;
         for i in 0..parametric.len() {
             let g = parametric.get(i);
-            let vanish = before.copy()?;
+            let vanish = before.members().copy()?;
             let stand = with_condition(alloc, ring, nonzero, g)?;
             let polys = one_alone(alloc, ring)?;
             all.push(self.child(BranchKind::Unit, vanish, stand, polys))?;
-            add(alloc, ring, &mut before, g)?;
+            before.add(alloc, ring, g)?;
         }
         Ok(())
     }
@@ -127,14 +127,14 @@ impl Branch {
         requires other { ArePolys ring.now other.now }
         ensures { OnOk result (all.new.items ≡ all.old.items ++ split_children ring.now self.now parametric.now nonzero.now other.now coefficients.now) }
     {
-        let mut before = nonzero.copy()?;
+        let mut before = GrowingList::new(alloc, nonzero)?;
         for i in 0..coefficients.len() {
             let h = coefficients.get(i);
             let vanish = with_condition(alloc, ring, parametric, h)?;
-            let stand = before.copy()?;
+            let stand = before.members().copy()?;
             let polys = other.copy()?;
             all.push(self.child(BranchKind::Split, vanish, stand, polys))?;
-            add(alloc, ring, &mut before, h)?;
+            before.add(alloc, ring, h)?;
         }
         Ok(())
     }

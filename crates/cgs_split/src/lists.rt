@@ -7,7 +7,7 @@ ghost use Rattle.cgs_poly.specs.Parameters.{IsCondition};
 ghost use Rattle.cgs_algebra.specs.Stability.{parametric_members as parametric, other_members as others};
 ghost use Rattle.cgs_entry.specs.Conditions.{with_member, with_members as with_all_members};
 
-use cgs_entry::add;
+use cgs_entry::{GrowingList, add};
 use cgs_list::Duplicate;
 use cgs_poly::{Poly, PolyList, Ring};
 use std::alloc::{AllocError, Global};
@@ -43,11 +43,11 @@ pub(crate) fn with_conditions(
     ensures conditions { IfOk result (λ longer. AllByRecursion (IsCondition ring.now) longer) }
     ensures added { IfOk result (λ longer. longer ≡ with_all_members ring.now list.now more.now) }
 {
-    let mut longer = list.copy()?;
+    let mut longer = GrowingList::new(alloc, list)?;
     for i in 0..more.len() {
-        add(alloc, ring, &mut longer, more.get(i))?;
+        longer.add(alloc, ring, more.get(i))?;
     }
-    Ok(longer)
+    Ok(longer.into_members())
 }
 
 /// The members in the parameters alone.

@@ -17,12 +17,12 @@ loop-i-preserved c =
     let made = c.child.ensures
     ∙ (ap (λ E. case_like c.args.self.now Split E c.in_ok-stand.stand c.in_ok-polys.polys) c.in_ok-vanish.ensures.added
     ∙ (ap (λ N. case_like c.args.self.now Split (with_member c.args.ring.now c.args.parametric.now c.get-h.result.now) N c.in_ok-polys.polys)
-    c.in_ok-stand.ensures
+    (c.in_ok-stand.ensures ∙ c.members.ensures)
     ∙ ap (λ F. case_like c.args.self.now Split (with_member c.args.ring.now c.args.parametric.now c.get-h.result.now) c.loop-i.before F)
     c.in_ok-polys.ensures)) in
     record {
       made = split_step c.args.ring.now c.args.self.now c.loop-i.i c.loop-i.all.items c.push.new.self.items c.child.result c.in_ok-push.ensures.items
-          c.args.parametric.now c.loop-i.before c.args.other.now c.args.coefficients.now c.add.new.list c.get-h.result.now c.get-h.ensures made
+          c.args.parametric.now c.loop-i.before c.args.other.now c.args.coefficients.now c.add.new.self c.get-h.result.now c.get-h.ensures made
           c.in_ok-add.ensures.ok
           ∙ c.loop-i.invariant.made;
       conditions = c.in_ok-add.ensures.conditions c.loop-i.invariant.conditions h;

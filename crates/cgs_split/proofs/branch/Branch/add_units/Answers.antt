@@ -15,13 +15,13 @@ pub loop-i-preserved : goal.loop-i-preserved
 loop-i-preserved c =
     let g = all_at (IsCondition c.args.ring.now) c.args.parametric.now c.loop-i.i c.get-g.result.now c.requires.parametric c.get-g.ensures in
     let made = c.child.ensures
-    ∙ (ap (λ E. case_like c.args.self.now UnitKind E c.in_ok-stand.stand c.in_ok-polys.polys) c.in_ok-vanish.ensures
+    ∙ (ap (λ E. case_like c.args.self.now UnitKind E c.in_ok-stand.stand c.in_ok-polys.polys) (c.in_ok-vanish.ensures ∙ c.members.ensures)
     ∙ (ap (λ N. case_like c.args.self.now UnitKind c.loop-i.before N c.in_ok-polys.polys) c.in_ok-stand.ensures.added
     ∙ ap (λ F. case_like c.args.self.now UnitKind c.loop-i.before (with_member c.args.ring.now c.args.nonzero.now c.get-g.result.now) F)
     c.in_ok-polys.ensures.ok)) in
     record {
       made = unit_step c.args.ring.now c.args.self.now c.loop-i.i c.loop-i.all.items c.push.new.self.items c.child.result c.in_ok-push.ensures.items
-          c.loop-i.before c.args.nonzero.now c.args.parametric.now c.add.new.list c.get-g.result.now c.get-g.ensures made c.in_ok-add.ensures.ok
+          c.loop-i.before c.args.nonzero.now c.args.parametric.now c.add.new.self c.get-g.result.now c.get-g.ensures made c.in_ok-add.ensures.ok
           ∙ c.loop-i.invariant.made;
       conditions = c.in_ok-add.ensures.conditions c.loop-i.invariant.conditions g;
     }

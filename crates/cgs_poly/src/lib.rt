@@ -14,6 +14,7 @@ mod list;
 mod merge;
 mod parameters;
 mod poly;
+mod poly_list;
 mod product;
 mod recast;
 mod sum;
@@ -25,7 +26,8 @@ pub use laws::{
     specialising_is_homomorphism, value_is_homomorphism,
 };
 pub use list::{are_same, is_among, joined};
-pub use poly::{Poly, PolyList};
+pub use poly::Poly;
+pub use poly_list::PolyList;
 
 #[cfg(test)]
 mod tests;

@@ -3,7 +3,8 @@
 ghost use Rattle.std.specs.Prelude.{◌≡◌, ◌↔◌, ◌++◌, IsTrue, IfOk};
 ghost use Rattle.cgs_poly.specs.Same.{is_among};
 
-use crate::poly::{Poly, PolyList};
+use crate::poly::Poly;
+use crate::poly_list::PolyList;
 use std::alloc::{AllocError, Global};
 
 /// Copies of all polynomials of two lists, one list after the other.

@@ -9,13 +9,10 @@ ghost use Rattle.cgs_poly.specs.Flat.{coefficients_of, exponents_of};
 use crate::fault::PolyFault;
 use cgs_exps::{MAX_DEGREE, MAX_PLACES, degree as monomial_degree};
 use cgs_field::Elem;
-use cgs_list::{Duplicate, ItemList};
+use cgs_list::Duplicate;
 use cgs_terms::{Draft, Ring, Term, TermList};
 use std::alloc::{AllocError, Global};
 use std::marker::Model;
-
-/// A list of polynomials.
-pub type PolyList = ItemList<Poly>;
 
 /// A polynomial, which contracts see as its list of terms, the greatest monomial first.
 #[derive(Debug, Drop)]

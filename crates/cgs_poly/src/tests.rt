@@ -278,6 +278,23 @@ fn lists(rt: HostRuntime) -> Result<(), Fail> {
 }
 
 #[test]
+fn shared_lists(rt: HostRuntime) -> Result<(), Fail> {
+    let ring = ring(2).ok_or("no ring")?;
+    let f = poly(rt.alloc(), &ring, &[(3, [1, 0]), (6, [0, 0])])?;
+    let mut own = PolyList::new(rt.alloc());
+    own.push(f.copy()?)?;
+    own.push(Poly::zero(rt.alloc()))?;
+    let shared = own.shared()?;
+    let mut first = shared.first(1)?;
+    assert_eq!(rt; first.len(), 1);
+    first.push(f.copy()?)?;
+    assert_eq!(rt; first.len(), 2);
+    assert!(rt; first.iter().all(|g| g.same(&f)));
+    assert_eq!(rt; shared.copy()?.len(), 2);
+    Ok(())
+}
+
+#[test]
 fn flat_slices(rt: HostRuntime) -> Result<(), Fail> {
     let ring = ring(2).ok_or("no ring")?;
     let f = poly(rt.alloc(), &ring, &[(5, [0, 1]), (3, [2, 0])])?;

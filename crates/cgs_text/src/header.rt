@@ -15,7 +15,7 @@ use crate::refusal::LineRefused;
 use cgs_field::Modulus;
 use cgs_list::ItemList;
 use cgs_order::Kind;
-use cgs_poly::Ring;
+use cgs_poly::{PolyList, Ring};
 use cgs_problem::{NameList, Problem, TextKind};
 use cgs_tokens::{Lexeme, Line};
 use std::alloc::{AllocError, Global};
@@ -114,9 +114,9 @@ fn bare_problem(alloc: Global, header: Header, kind: Kind) -> Result<Problem, Al
     Ok(Problem {
         ring,
         names,
-        zero: ItemList::new(alloc),
-        nonzero: ItemList::new(alloc),
-        polys: ItemList::new(alloc),
+        zero: PolyList::new(alloc),
+        nonzero: PolyList::new(alloc),
+        polys: PolyList::new(alloc),
         thesis: None,
         points: ItemList::new(alloc),
     })

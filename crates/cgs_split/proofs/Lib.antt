@@ -13,3 +13,4 @@ pub mod ExampleLemmas
 pub mod OfRingLemmas
 pub mod ShowingLemmas
 pub mod TestedLemmas
+pub mod PrefixLemmas

@@ -39,9 +39,19 @@ impl Branch {
         let other = other_members(alloc, ring, basis)?;
         let kept = minimal_dickson(alloc, ring, &other)?;
         let coefficients = coefficient_list(alloc, ring, &kept)?;
+        let vanishing = with_conditions(alloc, ring, zero, &parametric)?;
+        let standing = with_conditions(alloc, ring, nonzero, &coefficients)?;
         let mut all = Vec::new(alloc);
-        self.add_units(alloc, ring, zero, nonzero, &parametric, &mut all)?;
-        let main = self.main_child(alloc, ring, nonzero, &parametric, &coefficients, &kept)?;
+        self.add_units(
+            alloc,
+            ring,
+            zero,
+            nonzero,
+            &parametric,
+            &vanishing,
+            &mut all,
+        )?;
+        let main = self.main_child(&parametric, &standing, &kept)?;
         all.push(main)?;
         self.add_splits(
             alloc,
@@ -49,6 +59,7 @@ impl Branch {
             nonzero,
             &parametric,
             &coefficients,
+            &standing,
             &other,
             &mut all,
         )?;
@@ -63,6 +74,7 @@ impl Branch {
         zero: &PolyList,
         nonzero: &PolyList,
         parametric: &PolyList,
+        vanishing: &PolyList,
         all: &mut Vec<Branch>,
     ) -> Result<(), AllocError>
         requires valid { IsRing ring.now }
@@ -70,12 +82,13 @@ impl Branch {
         requires zero { AllByRecursion (IsCondition ring.now) zero.now }
         requires nonzero { AllByRecursion (IsCondition ring.now) nonzero.now }
         requires parametric { AllByRecursion (IsCondition ring.now) parametric.now }
+        requires vanishing { with_members ring.now zero.now parametric.now ≡ vanishing.now }
         ensures { OnOk result (all.new.items ≡ all.old.items ++ unit_children ring.now self.now zero.now nonzero.now parametric.now) }
     {
         let mut before = GrowingList::new(alloc, zero)?;
         for i in 0..parametric.len() {
             let g = parametric.get(i);
-            let vanish = before.members().copy()?;
+            let vanish = vanishing.first(before.members().len())?;
             let stand = with_condition(alloc, ring, nonzero, g)?;
             let polys = one_alone(alloc, ring)?;
             all.push(self.child(BranchKind::Unit, vanish, stand, polys))?;
@@ -87,24 +100,18 @@ impl Branch {
     // The branch where the members in the parameters alone vanish and no leading coefficient does.
     fn main_child(
         &self,
-        alloc: Global,
-        ring: &Ring,
-        nonzero: &PolyList,
         parametric: &PolyList,
-        coefficients: &PolyList,
+        standing: &PolyList,
         kept: &PolyList,
     ) -> Result<Branch, AllocError>
-        requires valid { IsRing ring.now }
-        requires ring { ring.now ≡ self.now.ring }
-        requires nonzero { AllByRecursion (IsCondition ring.now) nonzero.now }
-        requires parametric { AllByRecursion (IsCondition ring.now) parametric.now }
-        requires coefficients { AllByRecursion (IsCondition ring.now) coefficients.now }
-        requires kept { ArePolys ring.now kept.now }
-        ensures { IfOk result (λ child. child ≡ case_like self.now Main parametric.now (with_members ring.now nonzero.now coefficients.now) kept.now) }
+        requires parametric { AllByRecursion (IsCondition self.now.ring) parametric.now }
+        requires standing { AllByRecursion (IsCondition self.now.ring) standing.now }
+        requires kept { ArePolys self.now.ring kept.now }
+        ensures { IfOk result (λ child. child ≡ case_like self.now Main parametric.now standing.now kept.now) }
     {
         let vanish = parametric.copy()?;
-        let stand = with_conditions(alloc, ring, nonzero, coefficients)?;
-        let polys = kept.copy()?;
+        let stand = standing.copy()?;
+        let polys = kept.copy()?.shared()?;
         Ok(self.child(BranchKind::Main, vanish, stand, polys))
     }
 
@@ -116,6 +123,7 @@ impl Branch {
         nonzero: &PolyList,
         parametric: &PolyList,
         coefficients: &PolyList,
+        standing: &PolyList,
         other: &PolyList,
         all: &mut Vec<Branch>,
     ) -> Result<(), AllocError>
@@ -124,6 +132,7 @@ impl Branch {
         requires nonzero { AllByRecursion (IsCondition ring.now) nonzero.now }
         requires parametric { AllByRecursion (IsCondition ring.now) parametric.now }
         requires coefficients { AllByRecursion (IsCondition ring.now) coefficients.now }
+        requires standing { with_members ring.now nonzero.now coefficients.now ≡ standing.now }
         requires other { ArePolys ring.now other.now }
         ensures { OnOk result (all.new.items ≡ all.old.items ++ split_children ring.now self.now parametric.now nonzero.now other.now coefficients.now) }
     {
@@ -131,7 +140,7 @@ impl Branch {
         for i in 0..coefficients.len() {
             let h = coefficients.get(i);
             let vanish = with_condition(alloc, ring, parametric, h)?;
-            let stand = before.members().copy()?;
+            let stand = standing.first(before.members().len())?;
             let polys = other.copy()?;
             all.push(self.child(BranchKind::Split, vanish, stand, polys))?;
             before.add(alloc, ring, h)?;

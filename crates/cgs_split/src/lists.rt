@@ -27,7 +27,8 @@ pub(crate) fn with_condition(
 {
     let mut longer = list.copy()?;
     add(alloc, ring, &mut longer, f)?;
-    Ok(longer)
+    let shared = longer.shared()?;
+    Ok(shared)
 }
 
 /// The list with conditions added in order.
@@ -47,7 +48,7 @@ pub(crate) fn with_conditions(
     for i in 0..more.len() {
         longer.add(alloc, ring, more.get(i))?;
     }
-    Ok(longer.into_members())
+    longer.into_members().shared()
 }
 
 /// The members in the parameters alone.
@@ -66,7 +67,7 @@ pub(crate) fn parametric_members(
             kept.push(g.copy()?)?;
         }
     }
-    Ok(kept)
+    kept.shared()
 }
 
 /// The members with variables.
@@ -85,5 +86,5 @@ pub(crate) fn other_members(
             kept.push(g.copy()?)?;
         }
     }
-    Ok(kept)
+    kept.shared()
 }

@@ -23,7 +23,7 @@ pub fn root_branch(alloc: Global, problem: &Problem, limits: &Limits) -> Result<
     let none = PolyList::new(alloc);
     let zero = with_conditions(alloc, &problem.ring, &none, &problem.zero)?;
     let nonzero = with_conditions(alloc, &problem.ring, &none, &problem.nonzero)?;
-    let polys = problem.polys.copy()?;
+    let polys = problem.polys.copy()?.shared()?;
     Ok(Branch {
         ring: problem.ring,
         limits: *limits,

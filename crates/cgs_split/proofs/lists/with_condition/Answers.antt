@@ -5,5 +5,6 @@ use Rattle.cgs_split.proofs.lists.with_condition.Goals as goal
 
 pub returns-clause-conditions : goal.returns-clause-conditions
 returns-clause-conditions c =
-    c.in_ok-add.ensures.conditions (subst (λ L. AllByRecursion (IsCondition c.args.ring.now) L) (sym c.in_ok-longer.ensures) c.requires.conditions)
-    c.requires.condition
+    subst (λ L. AllByRecursion (IsCondition c.args.ring.now) L) (sym c.in_ok-shared.ensures)
+    (c.in_ok-add.ensures.conditions (subst (λ L. AllByRecursion (IsCondition c.args.ring.now) L) (sym c.in_ok-longer.ensures) c.requires.conditions)
+    c.requires.condition)

@@ -1,6 +1,8 @@
 use Rattle.std.proofs.Common.{◌≡◌, [], sym, subst}
 use Rattle.std.specs.List.{AllByRecursion}
+use Rattle.cgs_poly.specs.Parameters.{IsCondition}
 use Rattle.cgs_algebra.proofs.DicksonLemmas.{other_each}
+use Rattle.cgs_split.specs.Cases.{Case}
 use Rattle.cgs_split.proofs.ChildLemmas.{parametric_kept, others_kept}
 use Rattle.cgs_split.proofs.branch.Branch.children.Goals as goal
 
@@ -20,6 +22,12 @@ add_units-requires-clause-parametric c =
 
 pub main_child-requires-clause-parametric : goal.main_child-requires-clause-parametric
 main_child-requires-clause-parametric c =
+    subst (λ (b : Case). AllByRecursion (IsCondition b.ring) c.in_ok-parametric.parametric) c.self.view_is
+    (parametric_kept _ _ c.self.view_is c.self.invariant.valid c.args.basis.now c.requires.polys
+    c.in_ok-parametric.parametric c.in_ok-parametric.ensures)
+
+pub with_conditions-requires-clause-more : goal.with_conditions-requires-clause-more
+with_conditions-requires-clause-more c =
     parametric_kept _ _ c.self.view_is c.self.invariant.valid c.args.basis.now c.requires.polys
     c.in_ok-parametric.parametric c.in_ok-parametric.ensures
 

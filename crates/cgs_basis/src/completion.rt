@@ -122,7 +122,12 @@ fn append_remainder(
 }
 
 // Puts a monic polynomial at the end, and its pairs with the members before it into the queue.
-fn append(ring: &Ring, members: &mut PolyList, queue: &mut Waiting, g: Poly) -> Result<(), AllocError>
+fn append(
+    ring: &Ring,
+    members: &mut PolyList,
+    queue: &mut Waiting,
+    g: Poly,
+) -> Result<(), AllocError>
     requires ring { IsRing ring.now }
     requires completion { IsCompletion ring.now members.old queue.old }
     requires poly { IsPoly ring.now g }

@@ -152,13 +152,13 @@ replied_unread plan problem a r own valid m =
 pub own_is_no_discovery : (plan : Plan) (problem : Problem) → own_problem plan ≡ Some problem → plan.command ≡ Discover → ⊥
 own_is_no_discovery plan problem own asked = absurd (let none : own_problem plan ≡ None = rw asked refl in let no : None ≡ Some problem = sym none ∙ own in cc)
 
-ended : (plan : Plan) (a b c d : Seen) (r : Result Reply Halt) (end : Status) → RepliesTo plan a b r → Delivers r c d end → Ends (Ok plan) a b c d end
-ended plan a b c d (Ok reply) end m w = finished (Ok plan) a b c d reply.text reply.status end m w
-ended plan a b c d (Err halt.Source) end m w =
+comes_to_end : (plan : Plan) (a b c d : Seen) (r : Result Reply Halt) (end : Status) → RepliesTo plan a b r → Delivers r c d end → Ends (Ok plan) a b c d end
+comes_to_end plan a b c d (Ok reply) end m w = finished (Ok plan) a b c d reply.text reply.status end m w
+comes_to_end plan a b c d (Err halt.Source) end m w =
     subst (λ (x : Status). Ends (Ok plan) a b c d x) (sym w.0)
     (subst (λ (x : Seen). Ends (Ok plan) a b c x status.Source) (sym w.1)
     (record { reads = m.0; taken = m.1; rose = m.2; written = Keeps-refl c.bytes; calm = refl }))
-ended plan a b c d (Err halt.Memory) end m w =
+comes_to_end plan a b c d (Err halt.Memory) end m w =
     subst (λ (x : Status). Ends (Ok plan) a b c d x) (sym w.0)
     (subst (λ (x : Seen). Ends (Ok plan) a b c x status.Memory) (sym w.1)
     (record { planned = refl; taken = m.0; written = Keeps-refl c.bytes; source_calm = m.1; sink_calm = refl }))
@@ -167,7 +167,7 @@ ended plan a b c d (Err halt.Memory) end m w =
 pub delivered : (asked : Result Plan WordFault) (plan : Plan) (a b c d : Seen) (r : Result Reply Halt) (end : Status) → Ok plan ≡ asked → RepliesTo plan a b r
     → Delivers r c d end
     → Ends asked a b c d end
-delivered asked plan a b c d r end e m w = subst (λ (x : Result Plan WordFault). Ends x a b c d end) e (ended plan a b c d r end m w)
+delivered asked plan a b c d r end e m w = subst (λ (x : Result Plan WordFault). Ends x a b c d end) e (comes_to_end plan a b c d r end m w)
 
 -- The history was put after a list.
 pub followed : (plan : Plan) (problem : Problem) (reply : Reply) (h : List Event) (r : Result Reply Halt) → plan.history ≡ true

@@ -39,7 +39,7 @@ def work(name):
         subprocess.run(["sleep", str(len((crates / name / "src/lib.rt").read_bytes()) / 1e5)])
         note("end", name)
         if name == os.environ.get("FAILS"):
-            tell(f"== {name}\\nsrc/lib.rt:1:1: error[goal]: {name} is not proved")
+            tell(f"== {name}\\nsrc/lib.rt:1:1: error[goal]: {name} is not proved\\nrattle build: nothing was built")
             return False
         stamp.parent.mkdir(parents=True, exist_ok=True)
         stamp.write_text(stamp_of(name))
@@ -186,13 +186,15 @@ def tried(tree):
     status, printed, said = tree.run("solve", FAILS="cgs_poly")
     yield "a crate that fails: status 9, and what was said of it alone", (status, printed) == (9, "") and [
         it for it in said if it.startswith(("src/", "fn ", "=="))] == ["== cgs_poly", "src/lib.rt:1:1: error[goal]: cgs_poly is not proved"]
+    yield "it is told when it fails", "cgs: cgs_poly is not proved; the crates that do not stand on it are built all the same" in said
     yield "what does not stand on it is kept", {"cgs_terms", "cgs_bucket"} <= set(tree.begun()) and tree.is_clean()
     status, printed, said = tree.run("solve")
     yield "the next call proves it and those above it", status == 0 and "cgs_terms" not in tree.begun() and "cgs_poly" in tree.begun()
     tree.touch("cgs", "// more\n")
     status, _, said = tree.run("solve", FAILS="run")
     yield "a program that is not linked: status 9, and what was said", status == 9 and "LLVM did not compile what was proved" in said
-    for number, name, status in ((signal.SIGINT, "Ctrl-C", 130), (signal.SIGTERM, "an end from outside", 143), (signal.SIGHUP, "a closed terminal", 129)):
+    ends = (signal.SIGINT, "Ctrl-C", 130), (signal.SIGTERM, "an end from outside", 143), (signal.SIGHUP, "a closed terminal", 129)
+    for number, name, status in ends:
         tree.touch("cgs_list", f"// {name}\n")
         child = tree.start("solve", MARK="first-build")
         while len(tree.events()) < 16:
@@ -213,8 +215,9 @@ def tried(tree):
     child.communicate(timeout=60)
     yield "the same while the program is linked", child.returncode == 143 and tree.is_clean() and not tree.program.exists()
     os.symlink(tree.top / "cgs", tree.at / "linked")
-    ran = subprocess.run([str(tree.at / "linked"), "solve"], cwd="/", env={"PATH": f"{tree.at}/bin:/usr/bin:/bin", "LOG": str(tree.log), "TMPDIR": str(tree.at / "tmp")},
-                         stdin=subprocess.DEVNULL, capture_output=True, text=True, check=False)
+    environment = {"PATH": f"{tree.at}/bin:/usr/bin:/bin", "LOG": str(tree.log), "TMPDIR": str(tree.at / "tmp")}
+    ran = subprocess.run([str(tree.at / "linked"), "solve"], cwd="/", env=environment, stdin=subprocess.DEVNULL, capture_output=True, text=True,
+                         check=False)
     yield "a symbolic link from another folder", (ran.returncode, ran.stdout) == (0, "program solve\n")
 
 

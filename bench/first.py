@@ -37,12 +37,13 @@ def work(name):
     if not stamp.exists() or stamp.read_text() != stamp_of(name):
         note("begin", name)
         subprocess.run(["sleep", str(len((crates / name / "src/lib.rt").read_bytes()) / 1e5)])
-        note("end", name)
         if name == os.environ.get("FAILS"):
+            note("end", name)
             tell(f"== {name}\\nsrc/lib.rt:1:1: error[goal]: {name} is not proved\\nrattle build: nothing was built")
             return False
         stamp.parent.mkdir(parents=True, exist_ok=True)
         stamp.write_text(stamp_of(name))
+        note("end", name)
     tell(f"== {name}\\nfn {name}::one: proved")
     return True
 

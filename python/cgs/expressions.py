@@ -5,7 +5,7 @@ from __future__ import annotations
 import re
 from collections.abc import Mapping
 from fractions import Fraction
-from typing import Any
+from typing import Any, Literal
 
 from .errors import FieldFault, ProblemFault
 from .ring import Exponents, Polynomial, Ring
@@ -25,18 +25,18 @@ def wrong(said: str, kind: str = "expression") -> ProblemFault:
 class Expression:
     """A parser of sums, products, quotients by numbers, powers and brackets.
 
-    `is_short` reads the short form of Singular, in which names have one letter, a number after a name is its exponent, and factors stand side by
-    side: `2x2y` is 2*x^2*y.
+    In the form `implied` factors may stand side by side: `2x y` is 2*x*y. In the form `short`, that of Singular, names also have one letter, and a
+    number after a name is its exponent: `2x2y` is 2*x^2*y.
     """
 
-    def __init__(self, text: str, names: tuple[str, ...], is_short: bool = False) -> None:
+    def __init__(self, text: str, names: tuple[str, ...], form: Literal["plain", "implied", "short"] = "plain") -> None:
         from sympy import QQ
         from sympy.polys.orderings import lex
         from sympy.polys.rings import PolyRing
 
         self._ring = PolyRing(names, QQ, lex)
         self._gens = dict(zip(names, self._ring.gens))
-        self._text, self._is_short = text, is_short
+        self._text, self._is_short, self._is_implied = text, form == "short", form != "plain"
         self._tokens = self._cut(text)
 
     def _cut(self, text: str) -> list[tuple[str, str]]:
@@ -88,7 +88,7 @@ class Expression:
                 total = total * self._power()
             elif self._take("/"):
                 total = self._quotient(total, self._power())
-            elif self._is_short and (self._next()[0] in ("name", "number") or self._next() == ("sign", "(")):
+            elif self._is_implied and (self._next()[0] in ("name", "number") or self._next() == ("sign", "(")):
                 total = total * self._power()
             else:
                 return total

@@ -1,11 +1,11 @@
-"""Problems as Singular takes and prints them. Parameters are those of the coefficients; what Singular has no word for stands in names and comments."""
+"""Problems as Singular takes and prints them: the parameters are those of the coefficients."""
 
 from __future__ import annotations
 
 import re
 from collections.abc import Iterable
 from dataclasses import dataclass
-from typing import Any
+from typing import Any, Literal
 
 from .errors import ProblemFault
 from .expressions import Expression, in_field
@@ -120,13 +120,13 @@ def read_singular(text: str, *, parameters: Names | None = None, field: int | No
     ring = ring_of(declared(stated[1]) if stated else printed(text), parameters, field)
     found = statements(text)
     extra = {name: found.pop(name, []) for name in ("cgs_zero", "cgs_nonzero", "cgs_thesis")}
-    name = ideal or ("cgs_polys" if "cgs_polys" in found else next(iter(found), None))
+    name = ideal or ("cgs_polys" if "cgs_polys" in found else next(iter(found), ""))
     if name not in found or (ideal is None and name != "cgs_polys" and len(found) > 1):
         raise fault(f"which ideal is meant? There are: {' '.join(found) or 'none'}")
-    is_short = all(len(each) == 1 for each in ring.names)
+    form: Literal["plain", "short"] = "short" if all(len(each) == 1 for each in ring.names) else "plain"
 
     def made(given: Iterable[str]) -> list[Polynomial]:
-        return [in_field(Expression(piece, ring.names, is_short).read(), ring) for piece in given]
+        return [in_field(Expression(piece, ring.names, form).read(), ring) for piece in given]
 
     thesis = made(extra["cgs_thesis"])
     points: list[Any] = [tuple(map(int, numbers.split())) for numbers in POINT.findall(text)]

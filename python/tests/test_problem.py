@@ -5,6 +5,7 @@ import pathlib
 import pytest
 import sympy
 from cgs import FieldFault, Problem, ProblemFault
+from cgs.macaulay2 import read_macaulay2
 from cgs.run import fault
 from cgs.singular import read_singular
 
@@ -119,9 +120,51 @@ def test_singular_rings():
     assert read_singular("ring r = 7,(x,y,a),Dp; ideal J = xa; ideal K = y;", parameters="a", ideal="K") == Problem(
         ["y"], variables="x y", parameters="a", field=7, order="grlex"
     )
-    for text in ["ideal I = x;", "ring r = 0,(x),lp; ideal I = x;", "ring r = 7,(x),ds; ideal I = x;", "ring r = 7,(x),lp;", "ring r=7,x,lp; ideal I=x; ideal J=x;"]:
-        with pytest.raises(ProblemFault):
-            read_singular(text)
+
+
+@pytest.mark.parametrize(
+    "ring, ideals",
+    [("", "ideal I=x;"), ("0,x,lp", "ideal I=x;"), ("7,x,ds", "ideal I=x;"), ("7,x,lp", ""), ("7,x,lp", "ideal I=x; ideal J=x;")],
+)
+def test_no_singular_problem(ring, ideals):
+    with pytest.raises(ProblemFault):
+        read_singular(f"ring r = {ring};\n{ideals}")
+
+
+@pytest.mark.parametrize("file", EXAMPLES, ids=lambda file: file.stem)
+def test_macaulay2_and_back(file):
+    problem = Problem.read(file)
+    assert Problem.from_macaulay2(problem.to_macaulay2()) == problem
+
+
+ANSWERED = """
+i1 : R = ZZ/32003[a,b][x,y, MonomialOrder=>Lex]
+
+i2 : I = ideal(a*x^12*y+3*y-1, (a+1)*x^2+b*y*x, x-b)
+
+               12                    2
+o2 = ideal (a*x  y + 3y - 1, (a + 1)x  + b*x*y, x - b)
+
+o2 : Ideal of R
+"""
+
+
+def test_as_macaulay2_prints():
+    wanted = Problem(["a*x^12*y+3*y-1", "(a+1)*x^2+b*x*y", "x-b"], variables="x y", parameters="a b")
+    assert read_macaulay2(ANSWERED) == wanted
+    described = "((ZZ/32003)[a..b])[x..y, Degrees => {2:1}, MonomialOrder => VerticalList{MonomialSize => 32, Lex => 2, Position => Up}]\n"
+    assert read_macaulay2(described + "ideal(a*x^12*y+3*y-1,(a+1)*x^2+b*x*y,x-b)") == wanted
+    external = "ideal map(R^1,R^{{-3, -1}, {-2, -1}, {-1, -1}},{{a*x^12*y+3*y-1, (a+1)*x^2+b*x*y, x-b}})"
+    assert read_macaulay2(described + external) == wanted
+
+
+def test_macaulay2_rings():
+    made = read_macaulay2("S = QQ[x,y,a]\nI = ideal x\nJ = ideal(y/2,3_S)", parameters="a", field=7, ideal="J")
+    assert made == Problem(["y/2", "3"], variables="x y", parameters="a", field=7, order="grevlex")
+    with pytest.raises(ProblemFault, match="no names with _"):
+        Problem(["x_1"], variables="x_1").to_macaulay2()
+    with pytest.raises(ProblemFault, match="toString"):
+        read_macaulay2("QQ[x]\n            1  2\no16 = ideal(-x  - 3)\n            2\n", field=7)
 
 
 def test_fault_lines():

@@ -261,7 +261,7 @@ def reading(value: int, modulus: int, most: int = 2000) -> Fraction:
     return Fraction(nearest)
 
 
-def read_polynomial(part: Polynomial, names: tuple[str, ...] | None = None) -> RationalPolynomial:
+def read_polynomial(part: Polynomial) -> RationalPolynomial:
     """A polynomial with each coefficient as `reading` reads it."""
     ring: Ring = part.ring
-    return RationalPolynomial(names or ring.names, tuple((reading(value, ring.modulus), exponents) for value, exponents in part.terms))
+    return RationalPolynomial(ring.names, tuple((reading(value, ring.modulus), exponents) for value, exponents in part.terms))

@@ -27,17 +27,20 @@ class Printed:
 
 
 def program() -> str:
-    """The path of the program: that of the environment variable CGS, else `cgs` on the path, else the script of the checkout around this module."""
+    """The path of the program: that of the environment variable CGS, else `cgs` on the path, else the script of the checkout around this module.
+
+    The script would build a program that is not there, which takes long; so it is taken only where the program is built.
+    """
     named = os.environ.get("CGS")
     if named:
         return named
     found = shutil.which("cgs")
     if found:
         return found
-    script = pathlib.Path(__file__).resolve().parents[2] / "cgs"
-    if script.is_file() and os.access(script, os.X_OK):
-        return str(script)
-    raise ProgramMissing("no program: set the environment variable CGS to its path, or put `cgs` on the PATH")
+    top = pathlib.Path(__file__).resolve().parents[2]
+    if (top / "crates/cgs/out/cgs").is_file():
+        return str(top / "cgs")
+    raise ProgramMissing("no program: set the environment variable CGS to its path, put `cgs` on the PATH, or build it by `./cgs check`")
 
 
 def fault(text: str) -> Exception:

@@ -1,0 +1,142 @@
+"""The parameter plane as an SVG picture."""
+
+from __future__ import annotations
+
+from collections.abc import Sequence
+from html import escape
+
+from .kinds import words
+from .plane import Corner, Plane, Window
+
+SIDE = 560
+LEFT, RIGHT, TOP, BOTTOM = 44, 16, 16, 40
+COLOURS = 8
+DASHES = ("", "7 4", "2 3", "9 3 2 3", "1 4", "12 4")
+SHAPES = ("dot", "square", "cross", "diamond", "ring", "plus", "triangle")
+
+
+class Scale:
+    """From the window to pixels."""
+
+    def __init__(self, window: Window) -> None:
+        self.window = window
+        self.unit = SIDE / (max(window[1] - window[0], window[3] - window[2]) + 1.2)
+        self.width = LEFT + RIGHT + self.unit * (window[1] - window[0] + 1.2)
+        self.height = TOP + BOTTOM + self.unit * (window[3] - window[2] + 1.2)
+
+    def x(self, value: float) -> float:
+        """The place of a value of the first axis."""
+        return round(LEFT + self.unit * (value - self.window[0] + 0.6), 1)
+
+    def y(self, value: float) -> float:
+        """The place of a value of the second axis, which goes up."""
+        return round(TOP + self.unit * (self.window[3] + 0.6 - value), 1)
+
+
+def shape(name: str, x: float, y: float, size: float) -> str:
+    """The outline of a mark around a place."""
+    low, high, full = f"{-size:.1f}", f"{size:.1f}", f"{2 * size:.1f}"
+    return {
+        "dot": f"M{x} {y}h0",
+        "square": f"M{x - size:.1f} {y - size:.1f}h{full}v{full}h-{full}z",
+        "cross": f"M{x - size:.1f} {y - size:.1f}l{full} {full}m0-{full}l-{full} {full}",
+        "diamond": f"M{x} {y - 1.3 * size:.1f}l{1.3 * size:.1f} {1.3 * size:.1f}l-{1.3 * size:.1f} {1.3 * size:.1f}l-{1.3 * size:.1f}-{1.3 * size:.1f}z",
+        "ring": f"M{x - size:.1f} {y}a{high} {high} 0 1 0 {full} 0a{high} {high} 0 1 0-{full} 0",
+        "plus": f"M{x} {y - 1.2 * size:.1f}v{2.4 * size:.1f}M{x - 1.2 * size:.1f} {y}h{2.4 * size:.1f}",
+        "triangle": f"M{x} {y - 1.2 * size:.1f}l{1.2 * size:.1f} {2.1 * size:.1f}h-{2.4 * size:.1f}z",
+    }[name].replace(low, f"-{high}")
+
+
+def marks(plane: Plane) -> dict[str, tuple[int, str]]:
+    """The colour and the shape of each entry with points, by its name: the one with the most points has the plain dot."""
+    shown = sorted((entry.name for entry, points in plane.points if points), key=lambda name: -len(dict_of(plane)[name]))
+    order = [entry.name for entry, points in plane.points if points and entry.name != shown[0]]
+    found = {shown[0]: (0, "dot")} if shown else {}
+    for place, name in enumerate(order):
+        found[name] = ((place + 1) % COLOURS, SHAPES[1 + place % (len(SHAPES) - 1)])
+    return found
+
+
+def dict_of(plane: Plane) -> dict[str, tuple[tuple[int, int], ...]]:
+    """The points by the names of the entries."""
+    return {entry.name: points for entry, points in plane.points}
+
+
+def mark_path(outlines: Sequence[str], name: str, colour: int, told: str) -> str:
+    """All marks of one entry as one path."""
+    return f'<path class="mark {name} c{colour}" d="{"".join(outlines)}"><title>{escape(told)}</title></path>'
+
+
+def ticks(low: int, high: int) -> list[int]:
+    """Some round numbers from low to high."""
+    step = next(step for step in (1, 2, 5, 10, 20, 50, 100, 200, 500, 10**6) if (high - low) / step <= 9)
+    return [value for value in range(low, high + 1) if value % step == 0]
+
+
+def frame(plane: Plane, scale: Scale) -> str:
+    """The ground, the grid lines and the axes with their numbers and names."""
+    left, right, low, high = plane.window
+    x0, x1, y0, y1 = scale.x(left - 0.6), scale.x(right + 0.6), scale.y(low - 0.6), scale.y(high + 0.6)
+    parts = [f'<rect class="ground" x="{x0}" y="{y1}" width="{x1 - x0:.1f}" height="{y0 - y1:.1f}"/>']
+    for value in ticks(left, right):
+        kind = "axis" if value == 0 else "grid"
+        parts.append(f'<path class="{kind}" d="M{scale.x(value)} {y1}V{y0}"/><text class="tick" x="{scale.x(value)}" y="{y0 + 15:.1f}">{value}</text>')
+    for value in ticks(low, high):
+        kind = "axis" if value == 0 else "grid"
+        parts.append(f'<path class="{kind}" d="M{x0} {scale.y(value)}H{x1}"/>')
+        parts.append(f'<text class="tick end" x="{x0 - 7:.1f}" y="{scale.y(value) + 4:.1f}">{value}</text>')
+    parts.append(f'<text class="name" x="{(x0 + x1) / 2:.1f}" y="{y0 + 34:.1f}">{escape(plane.axes[0])}</text>')
+    parts.append(f'<text class="name" x="{x0 - 32:.1f}" y="{(y0 + y1) / 2 + 5:.1f}">{escape(plane.axes[1])}</text>')
+    return "".join(parts)
+
+
+def line(corners: Sequence[Corner], scale: Scale) -> str:
+    """A curve from corner to corner; corners nearer than a pixel to the last one are left out."""
+    text, last = "", None
+    for place, (x, y) in enumerate(corners):
+        here = scale.x(x), scale.y(y)
+        if last is None or place == len(corners) - 1 or abs(here[0] - last[0]) + abs(here[1] - last[1]) >= 2:
+            text += f"{'L' if text else 'M'}{here[0]:g} {here[1]:g}"
+            last = here
+    return text
+
+
+def picture(plane: Plane) -> str:
+    """The picture without its legend."""
+    scale, found = Scale(plane.window), marks(plane)
+    size = min(5.2, scale.unit * 0.27)
+    parts = [frame(plane, scale)]
+    for place, curve in enumerate(plane.curves):
+        path = "".join(line(corners, scale) for corners in curve.lines)
+        dash = f' stroke-dasharray="{DASHES[place % len(DASHES)]}"' if DASHES[place % len(DASHES)] else ""
+        parts.append(f'<path class="curve" d="{path}"{dash}><title>{escape(curve.label)} = 0</title></path>')
+    for entry, points in plane.points:
+        if points:
+            colour, name = found[entry.name]
+            outlines = [shape(name, scale.x(x), scale.y(y), size) for x, y in points]
+            parts.append(mark_path(outlines, name, colour, f"segment {entry.name}: {words(entry)}"))
+    box = f'viewBox="0 0 {scale.width:.0f} {scale.height:.0f}"'
+    return f'<svg class="plane" {box} role="img" aria-label="The plane of {escape(" and ".join(plane.axes))}">{"".join(parts)}</svg>'
+
+
+def legend(plane: Plane) -> str:
+    """The legend: the marks with the paths, then the curves."""
+    rows = []
+    for name, (colour, kind) in marks(plane).items():
+        entry = next(entry for entry, _ in plane.points if entry.name == name)
+        mark = mark_path([shape(kind, 10, 10, 5)], kind, colour, name)
+        count = len(dict_of(plane)[name])
+        label = f'<span class="path">{escape(name)}</span> {escape(words(entry))} <span class="count">{count}</span>'
+        rows.append(f'<li><a href="#s-{escape(name)}"><svg width="20" height="20">{mark}</svg> {label}</a></li>')
+    curves = []
+    for place, curve in enumerate(plane.curves):
+        dash = f' stroke-dasharray="{DASHES[place % len(DASHES)]}"' if DASHES[place % len(DASHES)] else ""
+        sample = f'<svg width="34" height="12"><path class="curve" d="M1 6H33"{dash}/></svg>'
+        curves.append(f"<li>{sample} <code>{escape(shortened(curve.label))} = 0</code></li>")
+    head = "<h3>Conditions over the reals</h3>" if curves else ""
+    return f'<ul class="legend">{"".join(rows)}</ul>{head}<ul class="legend curves">{"".join(curves)}</ul>'
+
+
+def shortened(text: str) -> str:
+    """A text that is not too long for a legend."""
+    return text if len(text) <= 60 else text[:57] + "..."

@@ -105,22 +105,24 @@ def plane_section(found: Plane | None) -> str:
     fixed = "".join(f", {name} = {number}" for name, number in found.fixed)
     by = "the program (<code>locate</code>)" if found.is_located else "this page by the conditions of the list (computed, not proved)"
     note = (
-        f"Each mark is a pair of integers, taken modulo the prime{escape(fixed)}. Its segment was found by {by}. The curves are the real zeros of the "
-        "factors of the conditions, with coefficients read as simple fractions: computed, not proved. A factor that does not change its sign has no curve."
+        f"Each mark is a pair of integers, taken modulo the prime{escape(fixed)}. Its segment was found by {by}. The curves are the real zeros "
+        "of the factors of the conditions, with coefficients read as simple fractions: computed, not proved. A factor that does not change its "
+        "sign has no curve."
     )
     head = f"<h2>The plane of {escape(found.axes[0])} and {escape(found.axes[1])}</h2>"
-    return f'<section class="plane-part">{head}<div class="plane-row"><div>{picture(found)}</div><div>{legend(found)}</div></div><p class="note">{note}</p></section>'
+    row = f'<div class="plane-row"><div>{picture(found)}</div><div>{legend(found)}</div></div>'
+    return f'<section class="plane-part">{head}{row}<p class="note">{note}</p></section>'
 
 
 def notes(system: System) -> str:
     """What the page rests on."""
     modulus = system.ring.modulus
     return (
-        "<footer><p>Proved, as far as the program's promise goes: the cases are complete and do not overlap, and each basis is a minimal Gröbner basis at "
-        "every point of its segment. Computed here, not proved: factors, fractions, pictures. A number of solutions is that of the standard monomials, "
-        f"with multiplicities, in a field that is large enough. A coefficient modulo {modulus} is shown as a number near 0, or as a simple fraction that "
-        "is the same number there; conditions are shown without a constant factor. What stands under a pointer that rests, or opens below a card, is as "
-        "printed.</p></footer>"
+        "<footer><p>Proved of the program that printed the list: the cases are complete and do not overlap, and each basis is a minimal Gröbner "
+        "basis at every point of its segment. Computed here, not proved: factors, fractions, pictures. A number of solutions is that of the "
+        "standard monomials, so it counts multiplicities, in a field that is large enough. A coefficient modulo "
+        f"{modulus} is shown as a number near 0, or as a simple fraction that is the same number there; conditions are shown without a constant "
+        "factor. What a card opens is as printed.</p></footer>"
     )
 
 

@@ -35,16 +35,18 @@ class Scale:
 
 def shape(name: str, x: float, y: float, size: float) -> str:
     """The outline of a mark around a place."""
-    low, high, full = f"{-size:.1f}", f"{size:.1f}", f"{2 * size:.1f}"
+    half, full = f"{size:.1f}", f"{2 * size:.1f}"
+    more, twice = f"{1.25 * size:.1f}", f"{2.5 * size:.1f}"
+    corner, above, left = f"{x - size:.1f} {y - size:.1f}", f"{x} {y - 1.25 * size:.1f}", f"{x - 1.25 * size:.1f} {y}"
     return {
         "dot": f"M{x} {y}h0",
-        "square": f"M{x - size:.1f} {y - size:.1f}h{full}v{full}h-{full}z",
-        "cross": f"M{x - size:.1f} {y - size:.1f}l{full} {full}m0-{full}l-{full} {full}",
-        "diamond": f"M{x} {y - 1.3 * size:.1f}l{1.3 * size:.1f} {1.3 * size:.1f}l-{1.3 * size:.1f} {1.3 * size:.1f}l-{1.3 * size:.1f}-{1.3 * size:.1f}z",
-        "ring": f"M{x - size:.1f} {y}a{high} {high} 0 1 0 {full} 0a{high} {high} 0 1 0-{full} 0",
-        "plus": f"M{x} {y - 1.2 * size:.1f}v{2.4 * size:.1f}M{x - 1.2 * size:.1f} {y}h{2.4 * size:.1f}",
-        "triangle": f"M{x} {y - 1.2 * size:.1f}l{1.2 * size:.1f} {2.1 * size:.1f}h-{2.4 * size:.1f}z",
-    }[name].replace(low, f"-{high}")
+        "square": f"M{corner}h{full}v{full}h-{full}z",
+        "cross": f"M{corner}l{full} {full}m0-{full}l-{full} {full}",
+        "diamond": f"M{above}l{more} {more}l-{more} {more}l-{more}-{more}z",
+        "ring": f"M{x - size:.1f} {y}a{half} {half} 0 1 0 {full} 0a{half} {half} 0 1 0-{full} 0",
+        "plus": f"M{above}v{twice}M{left}h{twice}",
+        "triangle": f"M{above}l{more} {full}h-{twice}z",
+    }[name]
 
 
 def marks(plane: Plane) -> dict[str, tuple[int, str]]:
@@ -80,7 +82,8 @@ def frame(plane: Plane, scale: Scale) -> str:
     parts = [f'<rect class="ground" x="{x0}" y="{y1}" width="{x1 - x0:.1f}" height="{y0 - y1:.1f}"/>']
     for value in ticks(left, right):
         kind = "axis" if value == 0 else "grid"
-        parts.append(f'<path class="{kind}" d="M{scale.x(value)} {y1}V{y0}"/><text class="tick" x="{scale.x(value)}" y="{y0 + 15:.1f}">{value}</text>')
+        parts.append(f'<path class="{kind}" d="M{scale.x(value)} {y1}V{y0}"/>')
+        parts.append(f'<text class="tick" x="{scale.x(value)}" y="{y0 + 15:.1f}">{value}</text>')
     for value in ticks(low, high):
         kind = "axis" if value == 0 else "grid"
         parts.append(f'<path class="{kind}" d="M{x0} {scale.y(value)}H{x1}"/>')

@@ -8,8 +8,8 @@ from dataclasses import dataclass
 from fractions import Fraction
 from typing import Any, Union
 
-from .errors import CgsError, ProblemFault
-from .expressions import FieldFault, number_in_field
+from .errors import CgsError, FieldFault, ProblemFault
+from .expressions import number_in_field
 from .lines import path_text
 from .problem import Names, Problem
 from .ring import MODULI, Exponents, Polynomial, Ring
@@ -243,9 +243,8 @@ def solve_rational(
     def ask(problem: Problem) -> System:
         return solve(problem, workers=workers, budget=budget, depth=depth, keep_refused=True)
 
-    problems = [
-        Problem(polys, variables=variables, parameters=parameters, field=prime, order=order, zero=zero, nonzero=nonzero) for prime in (*chosen, tested)
-    ]
+    rest: dict[str, Any] = {"variables": variables, "parameters": parameters, "order": order, "zero": zero, "nonzero": nonzero}
+    problems = [Problem(polys, field=prime, **rest) for prime in (*chosen, tested)]
     return joined_systems([(solver or ask)(problem) for problem in problems])
 
 

@@ -7,9 +7,9 @@ from .system import Entry, Refused
 KINDS = {"finite": "finitely many solutions", "none": "no solution", "free": "infinitely many solutions", "refused": "refused"}
 SIGNS = {"none": "\N{EMPTY SET}", "free": "\N{INFINITY}", "refused": "?"}
 
-# Okabe and Ito (2008), darker or lighter where the ground asks for it
-LIGHT = ("#0072b2", "#c44e00", "#007a58", "#a84a80", "#8a6100", "#2c7fb8", "#4a4a4a", "#7b3f9e")
-DARK = ("#56b4e9", "#ff8f4d", "#2fd0a0", "#e79cc6", "#e8b23a", "#9ad0f5", "#d0d4d9", "#c79bea")
+# after Okabe and Ito (2008), darker or lighter where the ground asks for it; a test looks at them with eyes that lack a kind of cones
+LIGHT = ("#005fa3", "#c44e00", "#008a63", "#a84a80", "#8a6100", "#2c7fb8", "#4a4a4a", "#7b3f9e")
+DARK = ("#4ba6ee", "#ff8f4d", "#4fe3b3", "#e79cc6", "#e8b23a", "#9ad0f5", "#d0d4d9", "#c79bea")
 
 
 def kind(entry: Entry) -> str:

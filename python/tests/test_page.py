@@ -174,7 +174,7 @@ def test_browser(tmp_path):
     """A browser has nothing to say in its console, and paints the picture."""
     page, shot = tmp_path / "page.html", tmp_path / "shot.png"
     page.write_text(gallery_system("two-circles").html(), encoding="utf-8")
-    words = [CHROMIUM, "--headless", "--no-sandbox", "--disable-gpu", "--hide-scrollbars", "--window-size=1000,1600", "--enable-logging=stderr", "--v=0"]
+    words = [CHROMIUM, "--headless", "--no-sandbox", "--disable-gpu", "--hide-scrollbars", "--window-size=1000,1600", "--enable-logging=stderr"]
     words += ["--host-resolver-rules=MAP * ~NOTFOUND", f"--user-data-dir={tmp_path / 'profile'}", f"--screenshot={shot}", page.as_uri()]
     ran = subprocess.run(words, capture_output=True, timeout=100, check=False)
     assert ran.returncode == 0

@@ -9,7 +9,7 @@ from html import escape
 
 from .factors import factored
 from .kinds import KINDS, kind, sign, words
-from .mathml import relation, sum_of
+from .mathml import equation, relation, sum_of
 from .picture import legend, picture
 from .plane import WINDOW, Plane, plane
 from .problem import Problem
@@ -91,7 +91,7 @@ def question(system: System) -> str:
     shown = "".join(f"<div><dt>{word}</dt><dd>{escape(value)}</dd></div>" for word, value in facts)
     equations = given = ""
     if problem is not None:
-        equations = "".join(f"<li>{sum_of(read_polynomial(part))} <math><mo>=</mo><mn>0</mn></math></li>" for part in problem.polys)
+        equations = "".join(f"<li>{equation(read_polynomial(part))}</li>" for part in problem.polys)
         given = conditions("zero", problem.zero) + conditions("nonzero", problem.nonzero)
     lists = f'<ul class="equations">{equations}</ul>' if equations else ""
     lists += f'<p class="given">given that</p><ul class="equations">{given}</ul>' if given else ""

@@ -7,9 +7,19 @@ from .system import Entry, Refused
 KINDS = {"finite": "finitely many solutions", "none": "no solution", "free": "infinitely many solutions", "refused": "refused"}
 SIGNS = {"none": "\N{EMPTY SET}", "free": "\N{INFINITY}", "refused": "?"}
 
-# after Okabe and Ito (2008), darker or lighter where the ground asks for it; a test looks at them with eyes that lack a kind of cones
-LIGHT = ("#005fa3", "#c44e00", "#008a63", "#a84a80", "#8a6100", "#2c7fb8", "#4a4a4a", "#7b3f9e")
-DARK = ("#4ba6ee", "#ff8f4d", "#4fe3b3", "#e79cc6", "#e8b23a", "#9ad0f5", "#d0d4d9", "#c79bea")
+# three tones for each kind, on a light and on a dark ground, after Okabe and Ito (2008); a test looks at them with eyes that lack a kind of cones
+LIGHT = {
+    "finite": ("#005fa3", "#4b3fa8", "#1577b8"),
+    "none": ("#c44e00", "#7d3300", "#a8442f"),
+    "free": ("#008a63", "#00594a", "#4d7a12"),
+    "refused": ("#3a3f45", "#3a3f45", "#3a3f45"),
+}
+DARK = {
+    "finite": ("#4ba6ee", "#a9a1f5", "#8cc8f2"),
+    "none": ("#ff8f4d", "#d9a066", "#ff9d94"),
+    "free": ("#4fe3b3", "#3fb899", "#b4d45a"),
+    "refused": ("#e4e7eb", "#e4e7eb", "#e4e7eb"),
+}
 
 
 def kind(entry: Entry) -> str:

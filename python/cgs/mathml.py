@@ -73,6 +73,11 @@ def sum_of(polynomial: RationalPolynomial) -> str:
     return wrapped(terms(polynomial))
 
 
+def equation(polynomial: RationalPolynomial) -> str:
+    """That a polynomial is 0."""
+    return wrapped(terms(polynomial), '<mo form="infix">=</mo><mn>0</mn>')
+
+
 def bracketed(inside: str) -> str:
     """A formula in brackets."""
     return f'<mrow><mo stretchy="false">(</mo>{inside}<mo stretchy="false">)</mo></mrow>'

@@ -2,15 +2,18 @@
 
 from __future__ import annotations
 
+from collections import Counter
 from collections.abc import Sequence
+from dataclasses import dataclass
 from html import escape
 
-from .kinds import words
+from .kinds import kind, words
 from .plane import Corner, Plane, Window
+from .system import Entry
 
 SIDE = 560
 LEFT, RIGHT, TOP, BOTTOM = 44, 16, 16, 40
-COLOURS = 8
+TONES = 3
 DASHES = ("", "7 4", "2 3", "9 3 2 3", "1 4", "12 4")
 SHAPES = ("dot", "square", "cross", "diamond", "ring", "plus", "triangle")
 
@@ -33,7 +36,7 @@ class Scale:
         return round(TOP + self.unit * (self.window[3] + 0.6 - value), 1)
 
 
-def shape(name: str, x: float, y: float, size: float) -> str:
+def outline(name: str, x: float, y: float, size: float) -> str:
     """The outline of a mark around a place."""
     half, full = f"{size:.1f}", f"{2 * size:.1f}"
     more, twice = f"{1.25 * size:.1f}", f"{2.5 * size:.1f}"
@@ -49,24 +52,38 @@ def shape(name: str, x: float, y: float, size: float) -> str:
     }[name]
 
 
-def marks(plane: Plane) -> dict[str, tuple[int, str]]:
-    """The colour and the shape of each entry with points, by its name: the one with the most points has the plain dot."""
-    shown = sorted((entry.name for entry, points in plane.points if points), key=lambda name: -len(dict_of(plane)[name]))
-    order = [entry.name for entry, points in plane.points if points and entry.name != shown[0]]
-    found = {shown[0]: (0, "dot")} if shown else {}
-    for place, name in enumerate(order):
-        found[name] = ((place + 1) % COLOURS, SHAPES[1 + place % (len(SHAPES) - 1)])
+@dataclass(frozen=True)
+class Mark:
+    """The mark of the points of an entry: its kind and one of the tones of it for the colour, a shape, and the points."""
+
+    entry: Entry
+    tone: int
+    shape: str
+    points: tuple[tuple[int, int], ...]
+
+    @property
+    def told(self) -> str:
+        """What the mark stands for."""
+        return f"segment {self.entry.name}: {words(self.entry)}"
+
+
+def marks(plane: Plane) -> list[Mark]:
+    """The marks of the entries with points: the entry with the most points has the plain dot, the others have shapes by turns."""
+    shown = [(entry, points) for entry, points in plane.points if points]
+    most = max((len(points) for _, points in shown), default=0)
+    dotted = next((entry for entry, points in shown if len(points) == most), None)
+    others = [entry for entry, _ in shown if entry is not dotted]
+    found, seen = [], Counter[str]()
+    for entry, points in shown:
+        shape = "dot" if entry is dotted else SHAPES[1 + others.index(entry) % (len(SHAPES) - 1)]
+        found.append(Mark(entry, seen[kind(entry)] % TONES, shape, points))
+        seen[kind(entry)] += 1
     return found
 
 
-def dict_of(plane: Plane) -> dict[str, tuple[tuple[int, int], ...]]:
-    """The points by the names of the entries."""
-    return {entry.name: points for entry, points in plane.points}
-
-
-def mark_path(outlines: Sequence[str], name: str, colour: int, told: str) -> str:
+def mark_path(mark: Mark, outlines: Sequence[str]) -> str:
     """All marks of one entry as one path."""
-    return f'<path class="mark {name} c{colour}" d="{"".join(outlines)}"><title>{escape(told)}</title></path>'
+    return f'<path class="mark {mark.shape} {kind(mark.entry)} v{mark.tone}" d="{"".join(outlines)}"><title>{escape(mark.told)}</title></path>'
 
 
 def ticks(low: int, high: int) -> list[int]:
@@ -81,12 +98,12 @@ def frame(plane: Plane, scale: Scale) -> str:
     x0, x1, y0, y1 = scale.x(left - 0.6), scale.x(right + 0.6), scale.y(low - 0.6), scale.y(high + 0.6)
     parts = [f'<rect class="ground" x="{x0}" y="{y1}" width="{x1 - x0:.1f}" height="{y0 - y1:.1f}"/>']
     for value in ticks(left, right):
-        kind = "axis" if value == 0 else "grid"
-        parts.append(f'<path class="{kind}" d="M{scale.x(value)} {y1}V{y0}"/>')
+        word = "axis" if value == 0 else "grid"
+        parts.append(f'<path class="{word}" d="M{scale.x(value)} {y1}V{y0}"/>')
         parts.append(f'<text class="tick" x="{scale.x(value)}" y="{y0 + 15:.1f}">{value}</text>')
     for value in ticks(low, high):
-        kind = "axis" if value == 0 else "grid"
-        parts.append(f'<path class="{kind}" d="M{x0} {scale.y(value)}H{x1}"/>')
+        word = "axis" if value == 0 else "grid"
+        parts.append(f'<path class="{word}" d="M{x0} {scale.y(value)}H{x1}"/>')
         parts.append(f'<text class="tick end" x="{x0 - 7:.1f}" y="{scale.y(value) + 4:.1f}">{value}</text>')
     parts.append(f'<text class="name" x="{(x0 + x1) / 2:.1f}" y="{y0 + 34:.1f}">{escape(plane.axes[0])}</text>')
     parts.append(f'<text class="name" x="{x0 - 32:.1f}" y="{(y0 + y1) / 2 + 5:.1f}">{escape(plane.axes[1])}</text>')
@@ -113,11 +130,8 @@ def picture(plane: Plane) -> str:
         path = "".join(line(corners, scale) for corners in curve.lines)
         dash = f' stroke-dasharray="{DASHES[place % len(DASHES)]}"' if DASHES[place % len(DASHES)] else ""
         parts.append(f'<path class="curve" d="{path}"{dash}><title>{escape(curve.label)} = 0</title></path>')
-    for entry, points in plane.points:
-        if points:
-            colour, name = found[entry.name]
-            outlines = [shape(name, scale.x(x), scale.y(y), size) for x, y in points]
-            parts.append(mark_path(outlines, name, colour, f"segment {entry.name}: {words(entry)}"))
+    for mark in found:
+        parts.append(mark_path(mark, [outline(mark.shape, scale.x(x), scale.y(y), size) for x, y in mark.points]))
     box = f'viewBox="0 0 {scale.width:.0f} {scale.height:.0f}"'
     return f'<svg class="plane" {box} role="img" aria-label="The plane of {escape(" and ".join(plane.axes))}">{"".join(parts)}</svg>'
 
@@ -125,12 +139,11 @@ def picture(plane: Plane) -> str:
 def legend(plane: Plane) -> str:
     """The legend: the marks with the paths, then the curves."""
     rows = []
-    for name, (colour, kind) in marks(plane).items():
-        entry = next(entry for entry, _ in plane.points if entry.name == name)
-        mark = mark_path([shape(kind, 10, 10, 5)], kind, colour, name)
-        count = len(dict_of(plane)[name])
-        label = f'<span class="path">{escape(name)}</span> {escape(words(entry))} <span class="count">{count}</span>'
-        rows.append(f'<li><a href="#s-{escape(name)}"><svg width="20" height="20">{mark}</svg> {label}</a></li>')
+    for mark in marks(plane):
+        name = escape(mark.entry.name)
+        label = f'<span class="path">{name}</span> {escape(words(mark.entry))} <span class="count">{len(mark.points)}</span>'
+        sign = mark_path(mark, [outline(mark.shape, 10, 10, 5)])
+        rows.append(f'<li><a href="#s-{name}"><svg width="20" height="20">{sign}</svg> {label}</a></li>')
     curves = []
     for place, curve in enumerate(plane.curves):
         dash = f' stroke-dasharray="{DASHES[place % len(DASHES)]}"' if DASHES[place % len(DASHES)] else ""

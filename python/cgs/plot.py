@@ -6,7 +6,7 @@ from collections.abc import Mapping, Sequence
 from typing import Any
 
 from .errors import ProblemFault
-from .kinds import DARK, LIGHT, words
+from .kinds import DARK, LIGHT, kind, words
 from .picture import DASHES, marks, shortened, ticks
 from .plane import WINDOW, Plane, plane
 from .system import System
@@ -15,24 +15,20 @@ MARKERS = {"dot": ".", "square": "s", "cross": "x", "diamond": "D", "ring": "o",
 GROUNDS = {False: ("#ffffff", "#1b1e22", "#dcdfe2", "#30353b"), True: ("#1a1e22", "#e9ebee", "#333a41", "#c9ced4")}
 
 
-def draw_points(axes: Any, found: Plane, colours: Sequence[str]) -> None:
+def draw_points(axes: Any, found: Plane, tones: Mapping[str, Sequence[str]]) -> None:
     """The marks of each entry, with a line for the legend."""
-    shown = marks(found)
-    for entry, points in found.points:
-        if not points:
-            continue
-        colour, shape = shown[entry.name]
-        is_open = shape == "ring"
+    for mark in marks(found):
+        colour, is_dot = tones[kind(mark.entry)][mark.tone], mark.shape == "dot"
         axes.scatter(
-            [x for x, _ in points],
-            [y for _, y in points],
-            s=18 if shape == "dot" else 30,
-            marker=MARKERS[shape],
-            facecolors="none" if is_open else colours[colour],
-            edgecolors=colours[colour] if is_open else None,
-            alpha=0.6 if shape == "dot" else 1,
+            [x for x, _ in mark.points],
+            [y for _, y in mark.points],
+            s=18 if is_dot else 30,
+            marker=MARKERS[mark.shape],
+            facecolors="none" if mark.shape == "ring" else colour,
+            edgecolors=colour if mark.shape == "ring" else None,
+            alpha=0.65 if is_dot else 1,
             zorder=3,
-            label=f"{entry.name}: {words(entry)}",
+            label=f"{mark.entry.name}: {words(mark.entry)}",
         )
 
 

@@ -160,9 +160,11 @@ def test_colours(dark):
         for one, other in itertools.combinations(kinds, 2):
             distance = sum((a - b) ** 2 for a, b in zip(perceived(one, matrix), perceived(other, matrix))) ** 0.5
             assert distance > 0.05, (one, other)
-    assert tuple(colours[f"c{place}"] for place in range(8)) == (DARK if dark else LIGHT)
-    for colour in [*kinds, *(DARK if dark else LIGHT)]:
-        assert contrast(colour, colours["sheet"]) >= 4
+    tones = DARK if dark else LIGHT
+    for name, three in tones.items():
+        assert colours[name] == three[0]
+        assert name == "refused" or [colours[f"{name}{place}"] for place in range(3)] == list(three)
+        assert all(contrast(colour, colours["sheet"]) >= 4 for colour in three)
     for colour in kinds:
         assert contrast(colour, colours["on"]) >= 4
     for name in ("ink", "soft"):

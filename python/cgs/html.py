@@ -106,8 +106,8 @@ def plane_section(found: Plane | None) -> str:
     by = "the program (<code>locate</code>)" if found.is_located else "this page by the conditions of the list (computed, not proved)"
     note = (
         f"Each mark is a pair of integers, taken modulo the prime{escape(fixed)}. Its segment was found by {by}. The curves are the real zeros "
-        "of the factors of the conditions, with coefficients read as simple fractions: computed, not proved. A factor that does not change its "
-        "sign has no curve."
+        "of the factors of these segments' conditions, with coefficients read as simple fractions: computed, not proved. A factor that does not "
+        "change its sign has no curve."
     )
     head = f"<h2>The plane of {escape(found.axes[0])} and {escape(found.axes[1])}</h2>"
     row = f'<div class="plane-row"><div>{picture(found)}</div><div>{legend(found)}</div></div>'

@@ -12,6 +12,7 @@ from .ring import Exponents
 
 SHORT_TERMS = 6
 MINUS = "\N{MINUS SIGN}"
+OPEN, CLOSED = '<mo stretchy="false" form="prefix">(</mo>', '<mo stretchy="false" form="postfix">)</mo>'
 THIN = '<mspace width="0.12em"></mspace>'
 
 
@@ -78,9 +79,14 @@ def equation(polynomial: RationalPolynomial) -> str:
     return wrapped(terms(polynomial), '<mo form="infix">=</mo><mn>0</mn>')
 
 
-def bracketed(inside: str) -> str:
-    """A formula in brackets."""
-    return f'<mrow><mo stretchy="false">(</mo>{inside}<mo stretchy="false">)</mo></mrow>'
+def factor(polynomial: RationalPolynomial, exponent: int) -> list[str]:
+    """A factor with its power: a name, or a bracket, which is cut between its terms where it is long."""
+    inside = terms(polynomial)
+    if len(polynomial.terms) == 1 and polynomial.terms[0][0] == 1 and sum(polynomial.terms[0][1]) == 1:
+        return [power(inside[0], exponent)]
+    inside[0] = OPEN + inside[0]
+    inside[-1] += power(CLOSED, exponent)
+    return inside if len(inside) > SHORT_TERMS else [f"<mrow>{''.join(inside)}</mrow>"]
 
 
 def relation(found: Factored, sign: str) -> str:
@@ -90,12 +96,8 @@ def relation(found: Factored, sign: str) -> str:
         return math(f"<mrow>{size(abs(found.unit))}{after}</mrow>")
     if len(found.factors) == 1 and found.factors[0][1] == 1:
         return wrapped(terms(found.factors[0][0]), after)
-    parts = []
-    for polynomial, exponent in found.factors:
-        inside = "".join(terms(polynomial))
-        is_name = len(polynomial.terms) == 1 and polynomial.terms[0][0] == 1 and sum(polynomial.terms[0][1]) == 1
-        parts.append(power(inside if is_name else bracketed(inside), exponent))
-    if sum(len(polynomial.terms) for polynomial, _ in found.factors) <= 2 * SHORT_TERMS:
-        return math("<mrow>" + THIN.join(parts) + after + "</mrow>")
+    parts = [part for polynomial, exponent in found.factors for part in factor(polynomial, exponent)]
     parts[-1] += after
+    if sum(len(polynomial.terms) for polynomial, _ in found.factors) <= SHORT_TERMS + 1:
+        return math("<mrow>" + THIN.join(parts) + "</mrow>")
     return " ".join(math(f"<mrow>{part}</mrow>") for part in parts)

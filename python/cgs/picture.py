@@ -141,7 +141,7 @@ def legend(plane: Plane) -> str:
     rows = []
     for mark in marks(plane):
         name = escape(mark.entry.name)
-        label = f'<span class="path">{name}</span> {escape(words(mark.entry))} <span class="count">{len(mark.points)}</span>'
+        label = f'<span class="path">{name}</span>: {escape(words(mark.entry))} <span class="count">{len(mark.points)}</span>'
         sign = mark_path(mark, [outline(mark.shape, 10, 10, 5)])
         rows.append(f'<li><a href="#s-{name}"><svg width="20" height="20">{sign}</svg> {label}</a></li>')
     curves = []

@@ -2,13 +2,14 @@
 
 from __future__ import annotations
 
-from collections.abc import Iterator, Mapping, Sequence
+from collections.abc import Iterable, Iterator, Mapping, Sequence
 from dataclasses import dataclass
 from fractions import Fraction
 
 from .errors import CgsError, ProblemFault
 from .factors import factored
 from .rational import RationalPolynomial
+from .ring import Exponents
 from .run import locate
 from .system import Entry, System
 
@@ -22,7 +23,7 @@ MOST_POINTS = 40_000
 
 @dataclass(frozen=True)
 class Curve:
-    """The real zeros of a factor of the conditions in a window, as lines from point to point, and the factor as a text."""
+    """The real zeros of a factor of a condition in a window, as lines from point to point, and the factor as a text."""
 
     label: str
     lines: tuple[tuple[Corner, ...], ...]
@@ -77,31 +78,31 @@ def entries_by_program(system: System, numbers: Sequence[Mapping[str, int]], wor
     return [None if place.path is None else by_path[place.path] for place in found.places]
 
 
-def conditions(system: System) -> list[RationalPolynomial]:
-    """The factors of all conditions, each once."""
+def conditions(entries: Iterable[Entry]) -> list[RationalPolynomial]:
+    """The factors of the conditions of some entries, each once."""
     found: dict[RationalPolynomial, None] = {}
-    for entry in system.entries:
+    for entry in entries:
         for part in (*entry.zero, *entry.nonzero):
             found.update(dict.fromkeys(factor for factor, _ in factored(part).factors))
     return list(found)
 
 
-def rows_of(part: RationalPolynomial, axes: tuple[str, str], fixed: Mapping[str, int]) -> dict[tuple[int, int], float]:
-    """A polynomial in the two axes, after the other parameters have their numbers: its coefficients by the two exponents."""
-    table: dict[tuple[int, int], Fraction] = {}
+def in_plane(part: RationalPolynomial, axes: tuple[str, str], fixed: Mapping[str, int]) -> list[RationalPolynomial]:
+    """The factors of a polynomial in the two axes, after the other parameters have their numbers."""
+    import sympy
+
+    table: dict[Exponents, Fraction] = {}
     for value, exponents in part.terms:
         powers = dict(zip(part.names, exponents))
-        for name, exponent in powers.items():
-            value *= Fraction(fixed.get(name, 0)) ** exponent if exponent and name not in axes else 1
+        for name, number in fixed.items():
+            value *= Fraction(number) ** powers[name]
         key = powers[axes[0]], powers[axes[1]]
         table[key] = table.get(key, Fraction(0)) + value
-    return {key: float(value) for key, value in table.items() if value}
-
-
-def text_of(table: Mapping[tuple[int, int], float], axes: tuple[str, str]) -> str:
-    """A polynomial in the two axes as a text."""
-    terms = tuple((Fraction(value).limit_denominator(10**6), key) for key, value in sorted(table.items(), reverse=True))
-    return str(RationalPolynomial(axes, terms))
+    kept = sorted(((value, key) for key, value in table.items() if value), key=lambda term: term[1], reverse=True)
+    if not kept:
+        return []
+    _, factors = sympy.factor_list(RationalPolynomial(axes, tuple(kept)).poly)
+    return [RationalPolynomial(axes, tuple((Fraction(int(value)), key) for key, value in factor.terms())) for factor, _ in factors]
 
 
 def values(table: Mapping[tuple[int, int], float], xs: Sequence[float], ys: Sequence[float]) -> list[list[float]]:
@@ -166,16 +167,14 @@ def chained(found: Iterator[tuple[Corner, Corner]]) -> tuple[tuple[Corner, ...],
     return tuple(map(tuple, chains))
 
 
-def curve(part: RationalPolynomial, axes: tuple[str, str], fixed: Mapping[str, int], window: Window) -> Curve | None:
-    """The zeros of a factor in the window, or None where there are none that change its sign."""
-    table = rows_of(part, axes, fixed)
-    if not table or set(table) == {(0, 0)}:
-        return None
+def curve(part: RationalPolynomial, window: Window) -> Curve | None:
+    """The zeros of a polynomial in the two axes in the window, or None where there are none that change its sign."""
     left, right, low, high = window[0] - 0.6, window[1] + 0.6, window[2] - 0.6, window[3] + 0.6
     xs = [left + (right - left) * k / CELLS for k in range(CELLS + 1)]
     ys = [low + (high - low) * k / CELLS for k in range(CELLS + 1)]
+    table = {(exponents[0], exponents[1]): float(value) for value, exponents in part.terms}
     lines = chained(pieces(values(table, xs, ys), xs, ys))
-    return Curve(text_of(table, axes), lines) if lines else None
+    return Curve(str(part), lines) if lines else None
 
 
 def checked_window(window: Sequence[int]) -> Window:
@@ -209,7 +208,8 @@ def plane(
     for spot, entry in zip(spots, holders):
         if entry is not None:
             by_path[entry.path].append(spot)
-    made = [curve(part, chosen, others, seen) for part in conditions(system)]
-    distinct = {each.label: each for each in made if each is not None}
     points = tuple((entry, tuple(by_path[entry.path])) for entry in system.entries)
-    return Plane(chosen, tuple(others.items()), seen, points, tuple(distinct.values())[:MOST_CURVES], located is not None)
+    parts = conditions(entry for entry, found in points if found)
+    distinct = dict.fromkeys(factor for part in parts for factor in in_plane(part, chosen, others))
+    curves = [made for factor in distinct if (made := curve(factor, seen)) is not None]
+    return Plane(chosen, tuple(others.items()), seen, points, tuple(curves[:MOST_CURVES]), located is not None)

@@ -20,6 +20,7 @@ from .errors import (
     WordsUnreadable,
 )
 from .problem import Problem
+from .rational import RationalSystem, solve_rational
 from .ring import MODULI, Polynomial, Ring
 from .run import basis, check, discover, locate, solve
 from .system import Claim, Give, Refused, Segment, System
@@ -46,6 +47,7 @@ __all__ = [
     "ProblemFault",
     "ProgramFailed",
     "ProgramMissing",
+    "RationalSystem",
     "Refused",
     "Ring",
     "Segment",
@@ -58,4 +60,5 @@ __all__ = [
     "discover",
     "locate",
     "solve",
+    "solve_rational",
 ]

@@ -181,5 +181,7 @@ def test_browser(tmp_path):
     ran = subprocess.run(words, capture_output=True, timeout=100, check=False)
     assert ran.returncode == 0
     assert b"CONSOLE" not in ran.stderr
-    assert shot.read_bytes().startswith(b"\x89PNG")
-    assert shot.stat().st_size > 40_000
+    image = pytest.importorskip("matplotlib.image").imread(shot)
+    for colour in ("none", "finite", "free"):
+        wanted = [int(variables(False)[colour][place : place + 2], 16) / 255 for place in (1, 3, 5)]
+        assert (abs(image[:, :, :3] - wanted).max(axis=2) < 0.01).sum() > 100, colour

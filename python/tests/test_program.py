@@ -72,6 +72,39 @@ def test_faults():
         assert words_caught.value.kind == kind
 
 
+ASK = {"basis": cgs.basis, "solve": cgs.solve, "locate": cgs.locate, "discover": cgs.discover}
+
+
+def cases():
+    """The cases with a status, but for those that close or fill a stream: the words, the input and the status."""
+    for case in sorted((TOP / "cases").iterdir()):
+        if not (case / "status").exists() or (case / "into").exists():
+            continue
+        status = int((case / "status").read_text())
+        words = (case / "args").read_text().split() if (case / "args").exists() else []
+        if status in (2, 4) or (status == 3 and words[0] in ASK and (case / "stdin").exists()):
+            yield pytest.param(words, case, status, id=case.name)
+
+
+@pytest.mark.parametrize("words, case, status", cases())
+def test_case(words, case, status):
+    given = (case / "stdin").read_bytes() if (case / "stdin").exists() else b""
+    said = (case / "stdout").read_text()
+    if status == 3:
+        limits = {word[2:]: int(value) for word, value in zip(words[1::2], words[2::2])}
+        with pytest.raises(cgs.OutOfLimits) as refused:
+            ASK[words[0]](cgs.Problem.parse(given), **limits)
+        assert refused.value.cause in said if words[0] == "basis" else str(refused.value.partial) == said
+    elif status == 2:
+        with pytest.raises(cgs.WordsFault) as words_caught:
+            run(words, given)
+        assert said == f"fault words {words_caught.value.kind}\n"
+    else:
+        with pytest.raises(cgs.ProblemFault) as caught:
+            run(words, given)
+        assert said == f"fault line {caught.value.line} {caught.value.kind}\n"
+
+
 def ends_with(folder, status, said=""):
     """A program that only ends with a status."""
     made = pathlib.Path(folder) / "cgs"

@@ -84,7 +84,7 @@ def flattened(text: str) -> str:
     return "\n".join(found)
 
 
-def inside(text: str, start: int) -> str:
+def bracket(text: str, start: int) -> str:
     """What stands in the bracket that opens at a place."""
     depth = 0
     for place in range(start, len(text)):
@@ -97,9 +97,9 @@ def inside(text: str, start: int) -> str:
 def members(text: str, start: int) -> list[str]:
     """The pieces of the bracket at a place, or the one word there; for `map(.., .., {{f, g}})` those of the inner list."""
     if text.startswith("map(", start):
-        return pieces(inside(inside(pieces(inside(text, start + 3))[2], 0), 0))
+        return pieces(bracket(bracket(pieces(bracket(text, start + 3))[2], 0), 0))
     if text[start] in "({":
-        return pieces(inside(text, start))
+        return pieces(bracket(text, start))
     return [text[start:].split("\n", 1)[0].strip(" ;")]
 
 
@@ -136,7 +136,7 @@ def read_macaulay2(text: str, *, parameters: Names | None = None, field: int | N
         return [in_field(Expression(piece, ring.names, form="implied").read(), ring) for piece in bare]
 
     thesis = made(stated(flat, "cgsThesis"))
-    points = [tuple(map(int, pieces(inside(point, 0)))) for point in stated(flat, "cgsPoints")]
+    points = [tuple(map(int, pieces(bracket(point, 0)))) for point in stated(flat, "cgsPoints")]
     return Problem(
         made(ideal_pieces(flat, ideal)),
         variables=ring.variables,

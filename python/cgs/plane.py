@@ -66,7 +66,7 @@ def grid(window: Window) -> Iterator[tuple[int, int]]:
 
 
 def entries_by_program(system: System, numbers: Sequence[Mapping[str, int]], workers: int) -> list[Entry | None] | None:
-    """The entry of each point as `locate` tells, or None where the program cannot be asked."""
+    """The entry of each point as `locate` tells, or None where the program cannot be asked, or has another list."""
     if system.problem is None or "_y" in system.ring.names:
         return None
     try:
@@ -75,6 +75,8 @@ def entries_by_program(system: System, numbers: Sequence[Mapping[str, int]], wor
     except CgsError:
         return None
     by_path = {entry.path: entry for entry in system.entries}
+    if any(place.path is not None and place.path not in by_path for place in found.places):
+        return None
     return [None if place.path is None else by_path[place.path] for place in found.places]
 
 

@@ -8,14 +8,14 @@ import re
 from collections.abc import Iterable, Sequence
 from dataclasses import dataclass, field
 from fractions import Fraction
-from typing import Any, Union
+from typing import Any
 
 from .errors import ProblemFault
 from .expressions import number_in_field, polynomial
 from .reader import MOST_DEGREE, MOST_NAME_BYTES, MOST_NAMES, read
 from .ring import MODULI, ORDERS, Polynomial, Ring, texts
 
-Names = Union[str, Iterable[Any]]
+Names = str | Iterable[Any]
 NAME = re.compile(r"[A-Za-z][A-Za-z0-9_]*")
 
 

@@ -6,7 +6,7 @@ import math
 from collections.abc import Callable, Iterable, Sequence
 from dataclasses import dataclass
 from fractions import Fraction
-from typing import Any, Union
+from typing import Any
 
 from .errors import CgsError, FieldFault, ProblemFault
 from .expressions import number_in_field
@@ -14,7 +14,7 @@ from .lines import path_text
 from .problem import Names, Problem
 from .ring import MODULI, Exponents, Polynomial, Ring
 from .run import solve
-from .system import Entry, Path, Refused, Segment, Standard, System
+from .system import Entry, Path, Segment, Standard, System
 
 PRIMES = (65521, 32003)
 Solver = Callable[[Problem], System]
@@ -204,7 +204,7 @@ def lifted_segment(entries: Sequence[Entry | None]) -> RationalSegment:
 
 def joined_systems(systems: Sequence[System]) -> RationalSystem:
     """One list over the rationals of lists modulo several primes, the last of which is the one to check against."""
-    tables: list[dict[Path, Union[Segment, Refused]]] = [{entry.path: entry for entry in system} for system in systems]
+    tables: list[dict[Path, Entry]] = [{entry.path: entry for entry in system} for system in systems]
     segments, left = [], []
     for path in sorted({path for table in tables for path in table}):
         try:

@@ -4,7 +4,7 @@ from __future__ import annotations
 
 from collections.abc import Iterator, Mapping, Sequence
 from dataclasses import dataclass, field
-from typing import TYPE_CHECKING, Any, Literal, Union
+from typing import TYPE_CHECKING, Any, Literal
 
 from .errors import TextFault
 from .lines import Lines, number, path_of, path_text
@@ -14,7 +14,7 @@ if TYPE_CHECKING:
     from .problem import Problem
 
 Path = tuple[int, ...]
-Standard = Union[int, Literal["many", "none"]]
+Standard = int | Literal["many", "none"]
 CAUSES = ("budget", "degree", "depth")
 
 
@@ -88,7 +88,7 @@ class Refused:
         return "".join(line + "\n" for line in lines)
 
 
-Entry = Union[Segment, Refused]
+Entry = Segment | Refused
 
 
 @dataclass(frozen=True)
@@ -115,7 +115,7 @@ class Give:
         return f"give {self.worker} {path_text(self.path)} {self.children} {self.entries}\n"
 
 
-Event = Union[Claim, Give]
+Event = Claim | Give
 
 
 @dataclass(frozen=True)

@@ -8,7 +8,7 @@ from cgs import ProgramMissing, System
 from cgs.run import program
 from hypothesis import HealthCheck, settings
 
-settings.register_profile("cgs", max_examples=25, deadline=None, suppress_health_check=[HealthCheck.too_slow])
+settings.register_profile("cgs", max_examples=25, deadline=None, database=None, derandomize=True, suppress_health_check=[HealthCheck.too_slow])
 settings.load_profile("cgs")
 
 TOP = pathlib.Path(__file__).resolve().parents[2]

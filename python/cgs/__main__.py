@@ -18,7 +18,7 @@ from .system import System
 
 WIDTH = 24
 STAGES = {"solve": "solving", "plane": "asking for the points of the plane", "cards": "writing the segments", "done": "done"}
-EXITS = "0: the page was written; 3: it was, and a part of the list is refused; 2, 4 to 9: as the program; 1: another fault"
+EXITS = "status 0: the page was written; 3: it was, and a part of the list is refused; 2, 4 to 9: as the program; 130: interrupted; 1: another fault"
 
 
 class Progress:
@@ -134,6 +134,8 @@ def main(given: Sequence[str] | None = None) -> int:
         said, status = str(fault), 2 if isinstance(fault, WordsFault) else getattr(fault, "status", 1)
     except OSError as fault:
         said, status = str(fault), 1
+    except KeyboardInterrupt:
+        said, status = "interrupted", 130
     finally:
         progress.close()
     print(f"cgs-report: {said}", file=sys.stderr)

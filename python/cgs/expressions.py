@@ -5,6 +5,7 @@ from __future__ import annotations
 import re
 from collections.abc import Mapping
 from fractions import Fraction
+from math import comb
 from typing import Any, Literal
 
 from .errors import FieldFault, ProblemFault
@@ -15,6 +16,7 @@ TOKEN = re.compile(r"\s*(?:(?P<name>[A-Za-z_][A-Za-z0-9_]*)|(?P<number>[0-9]+)|(
 SHORT_TOKEN = re.compile(r"\s*(?:(?P<name>[A-Za-z])|(?P<number>[0-9]+)|(?P<sign>\*\*|[-+*/^()]))")
 MOST_EXPONENT = 32767
 MOST_TERMS = 100_000
+MOST_BITS = 100_000
 
 
 def wrong(said: str, kind: str = "expression") -> ProblemFault:
@@ -114,6 +116,11 @@ class Expression:
         return int(text)
 
     def _raised(self, base: Any, exponent: int) -> Any:
+        if len(base) > 1 and comb(exponent + len(base) - 1, exponent) > MOST_TERMS:
+            raise wrong(f"a power with more than {MOST_TERMS} terms: {self._text[:200]}")
+        longest = max((max(int(value.numerator).bit_length(), int(value.denominator).bit_length()) for value in base.values()), default=0)
+        if longest > 1 and longest * exponent > MOST_BITS:
+            raise wrong(f"a number with more than {MOST_BITS} bits: {self._text[:200]}")
         return base**exponent if exponent else self._ring.one
 
     def _atom(self) -> tuple[Any, bool]:
@@ -163,7 +170,10 @@ def from_sympy(expression: Any, names: tuple[str, ...]) -> Rational:
 def rational(given: Any, names: tuple[str, ...]) -> Rational:
     """The coefficients of a polynomial over the rationals: of a string, a SymPy expression, an equation or a number."""
     if isinstance(given, str):
-        return Expression(given, names).read()
+        try:
+            return Expression(given, names).read()
+        except RecursionError:
+            raise wrong("its brackets are nested too deeply") from None
     return from_sympy(given, names)
 
 

@@ -59,7 +59,10 @@ def checked_point(given: Any, ring: Ring) -> tuple[int, ...]:
         if sorted(by_name) != sorted(ring.parameters):
             raise ProblemFault(None, "count", f"a point has a number for each of {' '.join(ring.parameters)}")
         given = [by_name[name] for name in ring.parameters]
-    numbers = tuple(number_in_field(Fraction(str(number)), ring.modulus) for number in given)
+    try:
+        numbers = tuple(number_in_field(Fraction(str(number)), ring.modulus) for number in given)
+    except (ValueError, ZeroDivisionError):
+        raise ProblemFault(None, "syntax", f"no point of rational numbers: {given}") from None
     if len(numbers) != len(ring.parameters):
         raise ProblemFault(None, "count", f"a point has {len(ring.parameters)} numbers")
     return numbers

@@ -51,6 +51,11 @@ def test_order_of_terms():
         (["x"], {"parameters": "a 2"}, "name"),
         (["x"], {"variables": ""}, "count"),
         (["x"], {"points": [(1, 2)]}, "count"),
+        (["x"], {"points": [("a",)]}, "syntax"),
+        (["x"], {"points": [("1/0",)]}, "syntax"),
+        (["(x+a+1)^9999"], {}, "expression"),
+        (["((9^32767)^32767)^32767*x"], {}, "expression"),
+        (["(" * 5000 + "x" + ")" * 5000], {}, "expression"),
         (["x"], {"thesis": "x^32767"}, "degree"),
     ],
 )

@@ -4,4 +4,5 @@ pub mod RunLemmas
 pub mod SortLemmas
 pub mod DifferenceLemmas
 pub mod PassedLemmas
+pub mod UnpassedLemmas
 pub mod TableLemmas

@@ -4,5 +4,6 @@ pub mod StateLemmas
 pub mod CompletionLemmas
 pub mod BasisLemmas
 pub mod RunLemmas
+pub mod PassingLemmas
 pub mod StepLemmas
 pub mod LowLemmas

@@ -10,7 +10,7 @@ use Rattle.cgs_poly.specs.Ring.{Ring}
 use Rattle.cgs_poly.specs.Polynomial.{Term, order_of, IsPoly, IsCanonical}
 use Rattle.cgs_poly.specs.Product.{leading_monomial, leading_coefficient}
 use Rattle.cgs_algebra.specs.Combination.{IsMember}
-use Rattle.cgs_algebra.specs.Groebner.{AreMonic}
+use Rattle.cgs_algebra.specs.Groebner.{AreMonic, leading_monomial_at}
 use Rattle.cgs_algebra.specs.SPolynomial.{pair_lcm, HasLcmRepresentation}
 use Rattle.cgs_pairs.specs.declared.pair.Pair.{Pair}
 use Rattle.cgs_pairs.specs.PairOrder.{pair, with_pairs, IsWaiting}
@@ -127,6 +127,9 @@ new_waits order G g pairs k l = (
   zero-add k,
   refl,
 )
+
+pub lead_here : (G : List (List Term)) (i : ℕ) → i < length G → get_or (leads_of G) i [] ≡ leading_monomial_at G i
+lead_here G i l = get_or-map leading_monomial G i [] [] l
 
 -- a polynomial at the end, with its pairs
 

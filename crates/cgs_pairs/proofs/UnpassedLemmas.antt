@@ -2,19 +2,17 @@
 use Rattle.std.proofs.Common.{ℕ, suc, ◌≡◌, ◌+◌, ◌<◌, ◌≤◌, ◌⊎◌, inl, inr, Bool, true, false, cond, List, [], ◌∷◌, ◌++◌, length, get_or, refl, sym}
 use Rattle.std.proofs.Common.{ap, ◌∙◌, subst, arith}
 use Rattle.std.specs.List.{AllByRecursion}
-use Rattle.std.specs.declared.cmp.Ordering.{Ordering}
-use Rattle.std.specs.declared.cmp.Ordering.TheVariants.{Less, Equal, Greater}
-use Rattle.std.specs.Ordering.{is_gt}
+use Rattle.std.specs.declared.cmp.Ordering.TheVariants.{Less}
 use Rattle.std.proofs.lemmas.Bool.{or_cases, or_left, or_right, false_from_ne_true}
 use Rattle.std.proofs.lemmas.List.{get_or_append_left}
 use Rattle.cgs_exps.specs.Monomial.{coprime}
 use Rattle.cgs_order.specs.declared.block.BlockOrder.{BlockOrder}
 use Rattle.cgs_pairs.specs.declared.pair.Pair.{Pair}
-use Rattle.cgs_pairs.specs.PairOrder.{pair_compared, with_pair, with_pairs, IsWaiting, IsAscending, HavePlaces, IsQueue}
+use Rattle.cgs_pairs.specs.PairOrder.{pair_compared, with_pairs, IsWaiting, IsAscending, HavePlaces, IsQueue}
 use Rattle.cgs_pairs.specs.Runs.{pair_at}
 use Rattle.cgs_pairs.specs.Unpassed.{pair_between, is_earlier_third, has_earlier_third, is_ever_passed, unpassed}
 use Rattle.cgs_pairs.proofs.PairLemmas.{pairs_here, pairs_kept, pairs_from, IsNewFrom}
-use Rattle.cgs_pairs.proofs.QueueLemmas.{pair_total, ascending_rest, below_others, same_pairs, with_pairs_ascending}
+use Rattle.cgs_pairs.proofs.QueueLemmas.{ascending_rest, below_others, same_pairs, with_pairs_ascending}
 
 -- a lead put at the end
 
@@ -115,56 +113,6 @@ module _ (order : BlockOrder) (leads : List (List ℕ)) where
           → HavePlaces order (cond b (unpassed order leads pairs) (x ∷ unpassed order leads pairs))
       by_test true ih = ih
       by_test false ih = (p.0, ih)
-
-  -- a pair that is not above the others is put in front of them
-  with_first : (x : Pair) (pairs : List Pair) → ((q : Pair) → IsWaiting q pairs → is_gt (pair_compared order x q) ≡ false)
-      → with_pair order x pairs ≡ x ∷ pairs
-  with_first x [] h = refl
-  with_first x (y ∷ pairs) h = ap (λ b. cond b (y ∷ with_pair order x pairs) (x ∷ y ∷ pairs)) (h y (inl refl))
-
-  not_above : (x y q : Pair) → is_gt (pair_compared order x y) ≡ false → pair_compared order y q ≡ Less → is_gt (pair_compared order x q) ≡ false
-  not_above x y q n l = by_order (pair_compared order x y) refl n
-    where
-      by_order : (o : Ordering) → pair_compared order x y ≡ o → is_gt o ≡ false → is_gt (pair_compared order x q) ≡ false
-      by_order Less e n = ap is_gt ((pair_total order).trans x y q e l)
-      by_order Equal e n = ap is_gt ((pair_total order).congr x y q e ∙ l)
-      by_order Greater e n = absurd (cc)
-
-  -- a pair put among ascending ones, and those that are passed left out
-  pub unpassed_with : (x : Pair) (pairs : List Pair) → IsAscending order pairs → unpassed order leads (with_pair order x pairs)
-      ≡ cond (is_ever_passed order leads x) (unpassed order leads pairs) (with_pair order x (unpassed order leads pairs))
-  unpassed_with x [] a = refl
-  unpassed_with x (y ∷ pairs) a =
-      by_place (is_gt (pair_compared order x y)) refl (unpassed_with x pairs (ascending_rest order y pairs a))
-    where
-      behind : (b p : Bool) → is_gt (pair_compared order x y) ≡ true
-          → cond p (cond b (unpassed order leads pairs) (with_pair order x (unpassed order leads pairs)))
-          (y ∷ cond b (unpassed order leads pairs) (with_pair order x (unpassed order leads pairs)))
-          ≡ cond b (cond p (unpassed order leads pairs) (y ∷ unpassed order leads pairs))
-          (with_pair order x (cond p (unpassed order leads pairs) (y ∷ unpassed order leads pairs)))
-      behind true true e = refl
-      behind true false e = refl
-      behind false true e = refl
-      behind false false e =
-          sym (ap (λ b. cond b (y ∷ with_pair order x (unpassed order leads pairs)) (x ∷ y ∷ unpassed order leads pairs)) e)
-
-      in_front : is_gt (pair_compared order x y) ≡ false → with_pair order x (unpassed order leads (y ∷ pairs)) ≡ x ∷ unpassed order leads (y ∷ pairs)
-      in_front n = with_first x (unpassed order leads (y ∷ pairs)) (λ q w. by_first q (unpassed_from q (y ∷ pairs) w).0)
-        where
-          by_first : (q : Pair) → IsWaiting q (y ∷ pairs) → is_gt (pair_compared order x q) ≡ false
-          by_first q (inl e) = ap (λ p. is_gt (pair_compared order x p)) e ∙ n
-          by_first q (inr v) = not_above x y q n (below_others order y pairs a q v)
-
-      by_place : (g : Bool) → is_gt (pair_compared order x y) ≡ g
-          → unpassed order leads (with_pair order x pairs)
-          ≡ cond (is_ever_passed order leads x) (unpassed order leads pairs) (with_pair order x (unpassed order leads pairs))
-          → unpassed order leads (cond g (y ∷ with_pair order x pairs) (x ∷ y ∷ pairs))
-          ≡ cond (is_ever_passed order leads x) (unpassed order leads (y ∷ pairs)) (with_pair order x (unpassed order leads (y ∷ pairs)))
-      by_place true e ih =
-          ap (λ ps. cond (is_ever_passed order leads y) ps (y ∷ ps)) ih
-          ∙ behind (is_ever_passed order leads x) (is_ever_passed order leads y) e
-      by_place false e ih =
-          ap (λ ps. cond (is_ever_passed order leads x) (unpassed order leads (y ∷ pairs)) ps) (sym (in_front e))
 
 -- the pairs of a new lead are put among those that wait: which of these are passed may be left out before
 

@@ -5,4 +5,6 @@ pub mod SortLemmas
 pub mod DifferenceLemmas
 pub mod PassedLemmas
 pub mod UnpassedLemmas
+pub mod EarlierLemmas
+pub mod MinimalLemmas
 pub mod TableLemmas

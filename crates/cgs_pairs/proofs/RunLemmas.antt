@@ -1,5 +1,5 @@
 -- The runs of a queue: what waits in them, a run that is put among others, and the least of all pairs.
-use Rattle.std.proofs.Common.{ℕ, zero, suc, take, zero-add, ◌≡◌, ◌+◌, ◌<◌, ◌≤◌, ◌⊎◌, inl, inr, List, [], ◌∷◌, ◌++◌, length, get_or, refl, sym}
+use Rattle.std.proofs.Common.{ℕ, zero, suc, take, zero-add, ◌≡◌, ◌+◌, ◌<◌, ◌≤◌, ◌⊎◌, inl, inr, true, false, List, [], ◌∷◌, ◌++◌, length, get_or, refl, sym}
 use Rattle.std.proofs.Common.{ap, ◌∙◌, subst, arith}
 use Rattle.std.specs.BTreeMap.{insert_entry}
 use Rattle.std.specs.List.{All, AllByRecursion}
@@ -20,7 +20,9 @@ use Rattle.cgs_pairs.specs.declared.rank.Rank.{Rank}
 use Rattle.cgs_pairs.specs.declared.runs.Run.{Run}
 use Rattle.cgs_pairs.specs.PairOrder.{pair, pair_compared, with_pairs, IsWaiting, IsAscending, HavePlaces, IsQueue}
 use Rattle.cgs_pairs.specs.Rank.{IsRankOf}
-use Rattle.cgs_pairs.specs.Runs.{pair_at, pairs_at, pairs_of, pairs_in, sorted, AreLeads, IsRun, IsEntry, IsFresh, AreApart, AreRuns, AreAllPlaces}
+use Rattle.cgs_pairs.specs.Runs.{pair_at, pairs_at, pairs_of, pairs_in, sorted, AreLeads, IsRun, IsEntry, IsFresh, AreApart, AreRuns}
+use Rattle.cgs_pairs.specs.Unpassed.{is_ever_passed, unpassed, AreEnough}
+use Rattle.cgs_pairs.proofs.UnpassedLemmas.{unpassed_from, unpassed_into, unpassed_ascending, unpassed_places, unpassed_before}
 use Rattle.cgs_pairs.proofs.QueueLemmas.{both_equal, pair_total, below_others, same_pairs, sorted_from, sorted_into, sorted_ascending}
 use Rattle.cgs_pairs.proofs.QueueLemmas.{ranks_compared, ranked_compared, least_first, with_pairs_ascending, sorted_places}
 use Rattle.cgs_pairs.proofs.PairLemmas.{pairs_here, pairs_kept, pairs_from}
@@ -259,7 +261,12 @@ module _ (leads : List (List ℕ)) (m : List ℕ) where
   pub runs_more : (order : BlockOrder) (runs : List (Rank × Run)) → AreRuns order leads runs → AreRuns order (leads ++ m ∷ []) runs
   runs_more order runs h = record { entries = entries_more order runs h.entries; apart = h.apart }
 
--- the pairs of a place with all those before it
+-- the pairs of a place with those before it, of which some that are passed are left out
+
+all_long : (order : BlockOrder) (leads : List (List ℕ)) → AreLeads order leads → AllByRecursion (λ (m : List ℕ). length m ≡ order.head + order.tail) leads
+all_long order leads right =
+    all_weaker (λ (m : List ℕ). (length m ≡ order.head + order.tail) × (length m ≤ 17))
+    (λ (m : List ℕ). length m ≡ order.head + order.tail) leads right (λ m p. p.0)
 
 below_larger : (leads : List (List ℕ)) (larger : ℕ) (runs : List (Rank × Run)) → AllByRecursion (λ e. e.0.larger < larger) runs
     → (q : Pair) → IsWaiting q (pairs_in leads runs) → q.larger < larger
@@ -283,7 +290,7 @@ at_place leads larger (i ∷ places) zero d l = inl refl
 at_place leads larger (i ∷ places) (suc k) d l = inr (at_place leads larger places k d (omega arith))
 
 module _ (order : BlockOrder) (leads : List (List ℕ)) (right : AreLeads order leads) (larger : ℕ) (within : larger < length leads) (places : List ℕ)
-    (run : IsRun order leads larger places) (all : AreAllPlaces larger places) (runs : List (Rank × Run)) (h : AreRuns order leads runs)
+    (run : IsRun order leads larger places) (all : AreEnough order leads larger places) (runs : List (Rank × Run)) (h : AreRuns order leads runs)
     (below : AllByRecursion (λ e. e.0.larger < larger) runs) where
   abbrev new_pairs : List Pair
   new_pairs = pairs_at leads larger places
@@ -317,51 +324,96 @@ module _ (order : BlockOrder) (leads : List (List ℕ)) (right : AreLeads order 
         | inr v ↦ pairs_kept order (get_or leads larger []) larger 0 before (sorted order old_pairs) q (sorted_into order q old_pairs old_places v)
       ]
 
-  back : (q : Pair) → IsWaiting q with_new_pairs → IsWaiting q (sorted order (new_pairs ++ old_pairs))
-  back q w = sorted_into order q (new_pairs ++ old_pairs) both_places
+  back : (q : Pair) → is_ever_passed order leads q ≡ false → IsWaiting q with_new_pairs → IsWaiting q (sorted order (new_pairs ++ old_pairs))
+  back q n w = sorted_into order q (new_pairs ++ old_pairs) both_places
       (elim (pairs_from order (get_or leads larger []) larger 0 before (sorted order old_pairs) q w) as (λ _. IsWaiting q (new_pairs ++ old_pairs)) [
         | inl (k, l, e) ↦
             let m : k < larger = omega (arith, l, length-take larger leads) in
-            let c = all.each k m in
-            let at : pair_at leads larger (get_or places c.0 k) ≡ q = ap (λ i. pair_at leads larger i) c.2 ∙ (sym (same_pair k m) ∙ sym e) in
-            waiting_left q new_pairs old_pairs (subst (λ x. IsWaiting x new_pairs) at (at_place leads larger places c.0 k c.1))
+            let is : pair_at leads larger k ≡ q = sym (same_pair k m) ∙ sym e in
+            elim (all.each k m) as (λ _. IsWaiting q (new_pairs ++ old_pairs)) [
+              | inl c ↦
+                  let at : pair_at leads larger (get_or places c.0 k) ≡ q = ap (λ i. pair_at leads larger i) c.2 ∙ is in
+                  waiting_left q new_pairs old_pairs (subst (λ x. IsWaiting x new_pairs) at (at_place leads larger places c.0 k c.1))
+              | inr p ↦ let t : is_ever_passed order leads q ≡ true = ap (λ x. is_ever_passed order leads x) (sym is) ∙ p in absurd (cc)
+            ]
         | inr v ↦ waiting_right q new_pairs old_pairs (sorted_from order q old_pairs v)
       ])
 
-  pub all_put : sorted order (new_pairs ++ old_pairs) ≡ with_new_pairs
-  all_put =
-      same_pairs order (sorted order (new_pairs ++ old_pairs)) with_new_pairs
-      (sorted_ascending order (new_pairs ++ old_pairs))
+  pub enough_put : unpassed order leads (sorted order (new_pairs ++ old_pairs)) ≡ unpassed order leads with_new_pairs
+  enough_put =
+      same_pairs order (unpassed order leads (sorted order (new_pairs ++ old_pairs))) (unpassed order leads with_new_pairs)
+      (unpassed_ascending order leads (sorted order (new_pairs ++ old_pairs)) (sorted_ascending order (new_pairs ++ old_pairs)))
+      (unpassed_ascending order leads with_new_pairs
       (with_pairs_ascending order (get_or leads larger []) larger 0 before (sorted order old_pairs) (lead_places order leads right larger within).0
-      (all_take (λ (m : List ℕ). length m ≡ order.head + order.tail) larger leads
-      (all_weaker (λ (m : List ℕ). (length m ≡ order.head + order.tail) × (length m ≤ 17))
-      (λ (m : List ℕ). length m ≡ order.head + order.tail) leads right (λ m p. p.0)))
+      (all_take (λ (m : List ℕ). length m ≡ order.head + order.tail) larger leads (all_long order leads right))
       (sorted_ascending order old_pairs) (sorted_places order old_pairs old_places)
-      (λ q w. inl (below_larger leads larger runs below q (sorted_from order q old_pairs w))))
-      forth back
+      (λ q w. inl (below_larger leads larger runs below q (sorted_from order q old_pairs w)))))
+      (λ q w.
+      let u = unpassed_from order leads q (sorted order (new_pairs ++ old_pairs)) w in
+      unpassed_into order leads q with_new_pairs (forth q u.0) u.1)
+      (λ q w.
+      let u = unpassed_from order leads q with_new_pairs w in
+      unpassed_into order leads q (sorted order (new_pairs ++ old_pairs)) (back q u.1 u.0) u.1)
 
 pub fresh_place : (larger : ℕ) (runs : List (Rank × Run)) → AllByRecursion (λ e. e.0.larger < larger) runs → IsFresh larger runs
 fresh_place larger [] all = tt
 fresh_place larger (e ∷ runs) all = ((λ s. let l = all.0 in omega (arith, l, s)), fresh_place larger runs all.1)
 
+-- the pairs that wait are those of places that there are
+
+run_within : (leads : List (List ℕ)) (larger : ℕ) (places : List ℕ) → larger < length leads → AllByRecursion (λ i. i < length leads) places → (q : Pair)
+    → IsWaiting q (pairs_at leads larger places) → (q.smaller < length leads) × (q.larger < length leads)
+run_within leads larger [] l all q w = absurd w
+run_within leads larger (i ∷ places) l all q (inl e) = (
+  let s : q.smaller ≡ i = ap (λ (p : Pair). p.smaller) e in
+      let k = all.0 in
+      omega (arith, s, k),
+  let s : q.larger ≡ larger = ap (λ (p : Pair). p.larger) e in
+      omega (arith, s, l),
+)
+run_within leads larger (i ∷ places) l all q (inr w) = run_within leads larger places l all.1 q w
+
+runs_within : (order : BlockOrder) (leads : List (List ℕ)) (runs : List (Rank × Run)) → AllByRecursion (IsEntry order leads) runs → (q : Pair)
+    → IsWaiting q (pairs_in leads runs) → (q.smaller < length leads) × (q.larger < length leads)
+runs_within order leads [] all q w = absurd w
+runs_within order leads (e ∷ runs) all q w =
+    elim (waiting_either q (pairs_of leads e) (pairs_in leads runs) w) as (λ _. (q.smaller < length leads) × (q.larger < length leads)) [
+      | inl v ↦ run_within leads e.0.larger (e.0.smaller ∷ e.1.places.items) all.0.within all.0.run.within q v
+      | inr v ↦ runs_within order leads runs all.1 q v
+    ]
+
 -- what the queue's calls need
 
-pub appended : (order : BlockOrder) (leads now : List (List ℕ)) (m : List ℕ) (place : ℕ) (runs after : List (Rank × Run)) → now ≡ leads ++ m ∷ []
-    → place ≡ length leads → AllByRecursion (IsEntry order leads) runs
-    → sorted order (pairs_in now after) ≡ with_pairs order (get_or now place []) place 0 (take place now) (sorted order (pairs_in now runs))
-    → sorted order (pairs_in now after) ≡ with_pairs order m (length leads) 0 leads (sorted order (pairs_in leads runs))
-appended order leads now m place runs after is at all e =
-    let last : get_or now place [] ≡ m = rw (is, at) (get_or-append_seam leads m [] []) in
-    let front : take place now ≡ leads = rw (is, at) (take-append_seam leads (m ∷ [])) in
-    let old : pairs_in now runs ≡ pairs_in leads runs = rw is (runs_same leads m order runs all) in
-    e ∙ rw (last, front, old, at) refl
-
-pub is_queue : (order : BlockOrder) (leads : List (List ℕ)) (runs : List (Rank × Run)) → AreLeads order leads → AreRuns order leads runs
+sorted_queue : (order : BlockOrder) (leads : List (List ℕ)) (runs : List (Rank × Run)) → AreLeads order leads → AreRuns order leads runs
     → IsQueue (record { order = order; pairs = sorted order (pairs_in leads runs) })
-is_queue order leads runs right h = record {
+sorted_queue order leads runs right h = record {
   ascending = sorted_ascending order (pairs_in leads runs);
   places = sorted_places order (pairs_in leads runs) (runs_places order leads right runs h.entries);
 }
+
+pub is_queue : (order : BlockOrder) (leads : List (List ℕ)) (runs : List (Rank × Run)) → AreLeads order leads → AreRuns order leads runs
+    → IsQueue (record { order = order; pairs = unpassed order leads (sorted order (pairs_in leads runs)) })
+is_queue order leads runs right h =
+    let q = sorted_queue order leads runs right h in
+    record {
+      ascending = unpassed_ascending order leads (sorted order (pairs_in leads runs)) q.ascending;
+      places = unpassed_places order leads (sorted order (pairs_in leads runs)) q.places;
+    }
+
+pub appended : (order : BlockOrder) (leads now : List (List ℕ)) (m : List ℕ) (place : ℕ) (runs after : List (Rank × Run)) → now ≡ leads ++ m ∷ []
+    → place ≡ length leads → length m ≡ order.head + order.tail → AreLeads order leads → AreRuns order leads runs
+    → unpassed order now (sorted order (pairs_in now after))
+    ≡ unpassed order now (with_pairs order (get_or now place []) place 0 (take place now) (sorted order (pairs_in now runs)))
+    → unpassed order now (sorted order (pairs_in now after))
+    ≡ unpassed order (leads ++ m ∷ []) (with_pairs order m (length leads) 0 leads (unpassed order leads (sorted order (pairs_in leads runs))))
+appended order leads now m place runs after is at long right h e =
+    let last : get_or now place [] ≡ m = rw (is, at) (get_or-append_seam leads m [] []) in
+    let front : take place now ≡ leads = rw (is, at) (take-append_seam leads (m ∷ [])) in
+    let old : pairs_in now runs ≡ pairs_in leads runs = rw is (runs_same leads m order runs h.entries) in
+    e
+    ∙ (rw (last, front, old, at, is) refl
+    ∙ sym (unpassed_before order leads m long (all_long order leads right) (sorted order (pairs_in leads runs)) (sorted_queue order leads runs right h)
+    (λ q w. runs_within order leads runs h.entries q (sorted_from order q (pairs_in leads runs) w))))
 
 pub below_entries : (rank : Rank) (runs : List (Rank × Run)) → All (λ k. ranks_compared rank k ≡ Less) (keys_of runs)
     → AllByRecursion (λ e. ranks_compared rank e.0 ≡ Less) runs

@@ -7,18 +7,18 @@ use Rattle.std.specs.Ordering.{is_lt}
 use Rattle.std.specs.declared.cmp.Ordering.{Ordering}
 use Rattle.std.specs.declared.cmp.Ordering.TheVariants.{Less, Equal, Greater}
 use Rattle.std.proofs.lemmas.Bool.{eqb-true, eq-eqb}
-use Rattle.std.proofs.lemmas.List.{length-append, length-map, get_or_append_left, get_or-map, get_or_default}
+use Rattle.std.proofs.lemmas.List.{length-map, map-append, get_or-map, get_or_default}
 use Rattle.std.proofs.lemmas.List.Sorted.{All-permutation, Contains-permutation, sum_by-IsPermutation}
 use Rattle.std.proofs.lemmas.List.Sums.{sum_by-cons}
-use Rattle.std.proofs.Math.Seq.{get_or-append_seam}
-use Rattle.cgs_list.proofs.ListLemmas.{all_weaker}
+use Rattle.cgs_list.proofs.ListLemmas.{all_append, all_at_place, all_weaker}
 use Rattle.cgs_exps.proofs.MonomialLemmas.{lcm_length}
 use Rattle.cgs_order.specs.declared.block.BlockOrder.{BlockOrder}
 use Rattle.cgs_pairs.specs.declared.pair.Pair.{Pair}
 use Rattle.cgs_pairs.specs.declared.rank.Rank.{Rank}
 use Rattle.cgs_pairs.specs.PairOrder.{pair_compared, IsAscending}
 use Rattle.cgs_pairs.specs.Rank.{IsRankOf}
-use Rattle.cgs_pairs.specs.Runs.{pair_at, pairs_at, AreLeads, IsRun, AreRanks, AreAllPlaces}
+use Rattle.cgs_pairs.specs.Runs.{pair_at, pairs_at, AreLeads, IsRun, AreRanks}
+use Rattle.cgs_pairs.specs.Unpassed.{is_ever_passed, Ascend, AreEnough}
 use Rattle.cgs_pairs.proofs.QueueLemmas.{pair_same, pair_back, ranks_compared, ranked_compared}
 use Rattle.cgs_pairs.proofs.RunLemmas.{lead_places}
 
@@ -44,50 +44,38 @@ not_here i r n = by_test (r.smaller == i) refl
     by_test true e = absurd (n (eqb-true r.smaller i e))
     by_test false e = refl
 
--- the smaller places go up by one, from j on
-abbrev GoUpFrom : ℕ → List Rank → Type 0
-GoUpFrom j ranks = (k : ℕ) (d : Rank) → k < length ranks → (get_or ranks k d).smaller ≡ j + k
-
-go_up : (j : ℕ) (r : Rank) (ranks : List Rank) → GoUpFrom j (r ∷ ranks) → GoUpFrom (suc j) ranks
-go_up j r ranks h k d l = let s = h (suc k) d (omega arith) in omega (arith, s)
-
-none_below : (ranks : List Rank) (i j : ℕ) → GoUpFrom j ranks → i < j → times i ranks ≡ 0
-none_below [] i j h l = refl
-none_below (r ∷ ranks) i j h l =
-    let first = h 0 r (omega arith) in
+none_above : (ranks : List Rank) (i : ℕ) → AllByRecursion (λ k. i < k) (map (λ (r : Rank). r.smaller) ranks) → times i ranks ≡ 0
+none_above [] i all = refl
+none_above (r ∷ ranks) i all =
+    let first : i < r.smaller = all.0 in
     let a = not_here i r (λ e. omega (arith, first, e)) in
-    let b = none_below ranks i (suc j) (go_up j r ranks h) (omega arith) in
+    let b = none_above ranks i all.1 in
     omega (arith, sum_by-cons (has_place i) r ranks, a, b)
 
-once : (ranks : List Rank) (i j : ℕ) → GoUpFrom j ranks → times i ranks ≤ 1
-once [] i j h = omega arith
-once (r ∷ ranks) i j h = by_test (r.smaller == i) refl (once ranks i (suc j) (go_up j r ranks h))
+-- of ascending places none stands twice
+once : (ranks : List Rank) (i : ℕ) → Ascend (map (λ (r : Rank). r.smaller) ranks) → times i ranks ≤ 1
+once [] i a = omega arith
+once (r ∷ ranks) i a = by_test (r.smaller == i) refl (once ranks i a.1)
   where
     by_test : (b : Bool) → (r.smaller == i) ≡ b → times i ranks ≤ 1 → times i (r ∷ ranks) ≤ 1
     by_test true e ih =
-        let first = h 0 r (omega arith) in
         let s : r.smaller ≡ i = eqb-true r.smaller i e in
-        omega (arith, sum_by-cons (has_place i) r ranks, here_once i r s, none_below ranks i (suc j) (go_up j r ranks h) (omega (arith, first, s)))
+        let none = none_above ranks i (subst (λ n. AllByRecursion (λ k. n < k) (map (λ (x : Rank). x.smaller) ranks)) s a.0) in
+        omega (arith, sum_by-cons (has_place i) r ranks, here_once i r s, none)
     by_test false e ih = let z : has_place i r ≡ 0 = ap (λ b. cond b 1 0) e in omega (arith, sum_by-cons (has_place i) r ranks, z, ih)
 
 module _ (order : BlockOrder) (leads : List (List ℕ)) (larger : ℕ) where
-  pub ranks_more : (n : ℕ) (ranks : List Rank) (r : Rank) → AreRanks order leads larger n ranks → IsRankOf order (pair_at leads larger n) r
-      → AreRanks order leads larger (n + 1) (ranks ++ r ∷ [])
-  ranks_more n ranks r h is = record {
-    count = omega (arith, length-append ranks (r ∷ []), h.count);
-    each = λ k d l. by_place k d l (cases_last k l);
-  }
-    where
-      cases_last : (k : ℕ) → k < length (ranks ++ r ∷ []) → (k < length ranks) ⊎ (k ≡ length ranks)
-      cases_last k l = grind (arith, length-append ranks (r ∷ []))
+  abbrev IsRanked : Rank → Type 0
+  IsRanked r = IsRankOf order (pair_at leads larger r.smaller) r
 
-      by_place : (k : ℕ) (d : Rank) → k < length (ranks ++ r ∷ []) → (k < length ranks) ⊎ (k ≡ length ranks)
-          → IsRankOf order (pair_at leads larger k) (get_or (ranks ++ r ∷ []) k d)
-      by_place k d l (inl m) = subst (λ x. IsRankOf order (pair_at leads larger k) x) (sym (get_or_append_left ranks (r ∷ []) d k m)) (h.each k d m)
-      by_place k d l (inr e) =
-          let at : get_or (ranks ++ r ∷ []) k d ≡ r = ap (λ i. get_or (ranks ++ r ∷ []) i d) e ∙ get_or-append_seam ranks r [] d in
-          let place : n ≡ k = omega (arith, e, h.count) in
-          subst (λ x. IsRankOf order (pair_at leads larger k) x) (sym at) (subst (λ i. IsRankOf order (pair_at leads larger i) r) place is)
+  pub ranks_more : (places : List ℕ) (ranks : List Rank) (n : ℕ) (r : Rank) → AreRanks order leads larger places ranks
+      → IsRankOf order (pair_at leads larger n) r → AreRanks order leads larger (places ++ n ∷ []) (ranks ++ r ∷ [])
+  ranks_more places ranks n r h is =
+      let place : r.smaller ≡ n = is.smaller in
+      record {
+        smaller = map-append (λ (x : Rank). x.smaller) ranks (r ∷ []) ∙ rw (h.smaller, place) refl;
+        each = all_append IsRanked ranks (r ∷ []) h.each (subst (λ i. IsRankOf order (pair_at leads larger i) r) (sym place) is, tt);
+      }
 
   module _ (right : AreLeads order leads) (within : larger < length leads) where
     -- the rank of a pair with a place before
@@ -144,42 +132,48 @@ module _ (order : BlockOrder) (leads : List (List ℕ)) (larger : ℕ) where
     places_below [] all = tt
     places_below (r ∷ ranks) all = ((all 0 r (omega arith)).below, places_below ranks (λ k d l. all (suc k) d (omega arith)))
 
-    module _ (ranks ordered : List Rank) (h : AreRanks order leads larger larger ranks) (same : IsPermutation ranks ordered) where
+    ones : (ranks : List Rank) → AllByRecursion IsRanked ranks → AllByRecursion (λ i. i < larger) (map (λ (r : Rank). r.smaller) ranks)
+        → AllByRecursion IsOne ranks
+    ones [] all below = tt
+    ones (r ∷ ranks) all below = (record { rank = all.0; below = below.0 }, ones ranks all.1 below.1)
+
+    module _ (queued : List ℕ) (ranks ordered : List Rank) (h : AreRanks order leads larger queued ranks)
+        (below : AllByRecursion (λ i. i < larger) queued) (same : IsPermutation ranks ordered) where
       abbrev places : List ℕ
       places = map (λ (r : Rank). r.smaller) ordered
 
       all_ones : All IsOne ordered
       all_ones = All-permutation IsOne ranks ordered same (λ k d l.
-          let is = h.each k d l in
-          let place : (get_or ranks k d).smaller ≡ k = is.smaller in
-          record {
-            rank = subst (λ n. IsRankOf order (pair_at leads larger n) (get_or ranks k d)) (sym place) is;
-            below = omega (arith, place, h.count);
-          })
+          all_at_place IsOne d ranks (ones ranks h.each (subst (λ is. AllByRecursion (λ i. i < larger) is) (sym h.smaller) below)) k l)
 
-      pub all_places : AreAllPlaces larger places
-      all_places = record {
+      kept : (i : ℕ) → Contains queued i → Contains places i
+      kept i c =
+          let long : length ranks ≡ length queued = sym (length-map ranks (λ (r : Rank). r.smaller)) ∙ ap length h.smaller in
+          let within : c.0 < length ranks = omega (arith, long, c.1) in
+          let first : 0 < length ranks = omega (arith, within) in
+          let x : Rank = get_or ranks c.0 (some_rank ranks first) in
+          let place : x.smaller ≡ i =
+          sym (get_or-map (λ (r : Rank). r.smaller) ranks c.0 (some_rank ranks first) i within) ∙ (ap (λ is. get_or is c.0 i) h.smaller ∙ c.2) in
+          let there = Contains-permutation ranks ordered x same (c.0, within, get_or_default ranks c.0 x (some_rank ranks first) within) in
+          let k : ℕ = there.0 in (
+            k,
+            omega (arith, there.1, length-map ordered (λ (r : Rank). r.smaller)),
+            get_or-map (λ (r : Rank). r.smaller) ordered k x i there.1 ∙ (ap (λ (r : Rank). r.smaller) there.2 ∙ place),
+          )
+
+      pub enough_places : AreEnough order leads larger queued → AreEnough order leads larger places
+      enough_places e = record {
         below = places_below ordered all_ones;
-        each = λ i l. has i l;
+        each = λ i l. elim (e.each i l) as (λ _. Contains places i ⊎ (is_ever_passed order leads (pair_at leads larger i) ≡ true)) [
+          | inl c ↦ inl (kept i c)
+          | inr p ↦ inr p
+        ];
       }
-        where
-          has : (i : ℕ) → i < larger → Contains places i
-          has i l =
-              let first : 0 < length ranks = omega (arith, h.count) in
-              let within : i < length ranks = omega (arith, h.count) in
-              let x : Rank = get_or ranks i (some_rank ranks first) in
-              let place : x.smaller ≡ i = (h.each i (some_rank ranks first) within).smaller in
-              let there = Contains-permutation ranks ordered x same (i, within, get_or_default ranks i x (some_rank ranks first) within) in
-              let k : ℕ = there.0 in (
-                k,
-                omega (arith, there.1, length-map ordered (λ (r : Rank). r.smaller)),
-                get_or-map (λ (r : Rank). r.smaller) ordered k x i there.1 ∙ (ap (λ (r : Rank). r.smaller) there.2 ∙ place),
-              )
 
-      pub sorted_run : IsSorted ranks_compared ordered → IsRun order leads larger places
-      sorted_run s = record {
+      pub sorted_run : Ascend queued → IsSorted ranks_compared ordered → IsRun order leads larger places
+      sorted_run a s = record {
         within = all_weaker (λ i. i < larger) (λ i. i < length leads) places (places_below ordered all_ones) (λ i l. omega arith);
         ascending = ascending_ranks ordered all_ones s (λ i.
-            let o = once ranks i 0 (λ k d l. let p : (get_or ranks k d).smaller ≡ k = (h.each k d l).smaller in omega (arith, p)) in
+            let o = once ranks i (subst (λ is. Ascend is) (sym h.smaller) a) in
             omega (arith, o, sum_by-IsPermutation (has_place i) ranks ordered same));
       }

@@ -1,6 +1,6 @@
 -- How the pairs of a list of members wait: for each member apart, in the order in which they are taken.
-use Rattle.std.specs.Prelude.{ℕ, ◌≡◌, ◌+◌, ◌<◌, ◌≤◌, List, [], ◌∷◌, ◌++◌, length, slice_index_or}
-use Rattle.std.specs.List.{AllByRecursion, Contains}
+use Rattle.std.specs.Prelude.{ℕ, ◌≡◌, ◌+◌, ◌<◌, ◌≤◌, List, [], ◌∷◌, ◌++◌, length, map, slice_index_or}
+use Rattle.std.specs.List.{AllByRecursion}
 use Rattle.std.specs.Ordering.{match_ordering}
 use Rattle.cgs_exps.specs.Monomial.{lcm}
 use Rattle.cgs_order.specs.declared.block.BlockOrder.{BlockOrder}
@@ -71,12 +71,7 @@ pub record AreRuns (order : BlockOrder) (leads : List (List ℕ)) (runs : List (
   pub entries : AllByRecursion (IsEntry order leads) runs
   pub apart : AreApart runs
 
--- the ranks of the pairs of one place with the first places, by the smaller place
-pub record AreRanks (order : BlockOrder) (leads : List (List ℕ)) (larger n : ℕ) (ranks : List Rank) : Type 0 where
-  pub count : length ranks ≡ n
-  pub each : (k : ℕ) (d : Rank) → k < length ranks → IsRankOf order (pair_at leads larger k) (slice_index_or ranks k d)
-
--- the smaller places of all pairs of a place with those before it
-pub record AreAllPlaces (larger : ℕ) (places : List ℕ) : Type 0 where
-  pub below : AllByRecursion (λ i. i < larger) places
-  pub each : (i : ℕ) → i < larger → Contains places i
+-- the ranks of the pairs of one place with others
+pub record AreRanks (order : BlockOrder) (leads : List (List ℕ)) (larger : ℕ) (places : List ℕ) (ranks : List Rank) : Type 0 where
+  pub smaller : map (λ (r : Rank). r.smaller) ranks ≡ places
+  pub each : AllByRecursion (λ (r : Rank). IsRankOf order (pair_at leads larger r.smaller) r) ranks

@@ -2,9 +2,11 @@
 
 ghost use Rattle.std.specs.Prelude.{◌≡◌, ◌+◌, ◌≤◌, ◌↔◌, [], ◌∷◌, ◌++◌, length, IsNone, IfOk, IfSome, OnOk, OnErr};
 ghost use Rattle.cgs_pairs.specs.PairOrder.{IsQueue, with_pairs};
+ghost use Rattle.cgs_pairs.specs.Unpassed.{unpassed};
 
-use crate::pair::{Pair, pair_of};
-use crate::runs::{Runs, lead_at, put, put_all};
+use crate::pair::Pair;
+use crate::runs::{Runs, put_all, take_first};
+use crate::unpassed::is_ever_passed;
 use cgs_exps::{MAX_PLACES, Powers};
 use cgs_order::BlockOrder;
 use std::alloc::{AllocError, Global};
@@ -12,7 +14,7 @@ use std::collections::BTreeMap;
 use std::marker::Model;
 
 /// The leads of some polynomials, the members, and pairs of their places that wait, which contracts see as their list in
-/// the order in which they are taken.
+/// the order in which they are taken. It holds no pair that is passed by the leads alone, whenever it is taken.
 #[derive(Debug, Drop)]
 pub struct Waiting {
     alloc: Global,
@@ -23,13 +25,14 @@ pub struct Waiting {
 
 impl Model for Waiting {
     ghost use Rattle.cgs_pairs.specs.Runs.{WaitingPairs, AreLeads, AreRuns, pairs_in, sorted};
+    ghost use Rattle.cgs_pairs.specs.Unpassed.{unpassed};
 
     ghost Value = { WaitingPairs };
 
     ghost view = { λ waiting. record {
       order = waiting.order;
       leads = waiting.leads.items;
-      pairs = sorted waiting.order (pairs_in waiting.leads.items waiting.runs.entries);
+      pairs = unpassed waiting.order waiting.leads.items (sorted waiting.order (pairs_in waiting.leads.items waiting.runs.entries));
     } };
 
     ghost invariant = { λ waiting. record {
@@ -51,12 +54,12 @@ impl Waiting {
         }
     }
 
-    /// Puts the lead of a new member at the end, and its pairs with the members before it into their places. An error
-    /// leaves all as it was.
+    /// Puts the lead of a new member at the end, and its pairs with the members before it into their places. Pairs that are
+    /// passed from now on are left out. An error leaves all as it was.
     pub fn append(&mut self, lead: &[u16]) -> Result<(), AllocError>
         requires same_places { length lead.now ≡ self.old.order.head + self.old.order.tail }
         requires places { length lead.now ≤ MAX_PLACES }
-        ensures ok { OnOk result (self.new ≡ record { order = self.old.order; leads = self.old.leads ++ lead.now ∷ []; pairs = with_pairs self.old.order lead.now (length self.old.leads) 0 self.old.leads self.old.pairs }) }
+        ensures ok { OnOk result (self.new ≡ record { order = self.old.order; leads = self.old.leads ++ lead.now ∷ []; pairs = unpassed self.old.order (self.old.leads ++ lead.now ∷ []) (with_pairs self.old.order lead.now (length self.old.leads) 0 self.old.leads self.old.pairs) }) }
         ensures err { OnErr result (self.new ≡ self.old) }
     {
         let place = self.leads.len();
@@ -77,20 +80,11 @@ impl Waiting {
         ensures leads { self.new.leads ≡ self.old.leads }
         ensures queue { IsQueue (record { order = self.old.order; pairs = self.old.pairs }) }
     {
-        let Some((rank, others)) = self.runs.pop_first() else {
-            return Ok(None);
-        };
-        let (larger, smaller) = (rank.larger, rank.smaller);
-        let (first, second) = (lead_at(&self.leads, smaller), lead_at(&self.leads, larger));
-        let pair = pair_of(self.alloc, first, second, larger, smaller)?;
-        put(
-            self.alloc,
-            &self.order,
-            &self.leads,
-            &mut self.runs,
-            larger,
-            others,
-        )?;
-        Ok(Some(pair))
+        while let Some(pair) = take_first(self.alloc, &self.order, &self.leads, &mut self.runs)? {
+            if !is_ever_passed(&self.order, &self.leads, &pair) {
+                return Ok(Some(pair));
+            }
+        }
+        Ok(None)
     }
 }

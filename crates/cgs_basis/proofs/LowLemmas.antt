@@ -1,9 +1,8 @@
 -- A basis run of polynomials as a program keeps them ends with such polynomials.
 use Rattle.std.proofs.Common.{ℕ, zero, suc, ◌≡◌, ◌-◌, inl, inr, Bool, true, false, cond, ltb, List, [], ◌∷◌, refl, subst, arith}
-use Rattle.std.proofs.lemmas.List.{map-append}
+use Rattle.cgs_list.proofs.ListLemmas.{all_push}
 use Rattle.cgs_poly.specs.Ring.{Ring}
-use Rattle.cgs_poly.specs.Polynomial.{Term, order_of, IsRing, IsPoly, canonical, ArePolys}
-use Rattle.cgs_poly.specs.Product.{leading_monomial}
+use Rattle.cgs_poly.specs.Polynomial.{Term, IsRing, IsPoly, canonical, ArePolys}
 use Rattle.cgs_poly.specs.Monic.{monic_of}
 use Rattle.cgs_poly.specs.Same.{is_among}
 use Rattle.cgs_poly.proofs.RingLemmas.{ring_positive}
@@ -19,13 +18,12 @@ use Rattle.cgs_divide.proofs.MonicLemmas.{monic_one}
 use Rattle.cgs_divide.proofs.EndingLemmas.{has_followed, past_budget, past_degree}
 use Rattle.cgs_divide.proofs.LowLemmas.{autoreduction_polys}
 use Rattle.cgs_pairs.specs.declared.pair.Pair.{Pair}
-use Rattle.cgs_pairs.specs.Runs.{WaitingPairs}
+use Rattle.cgs_pairs.specs.PairOrder.{IsWaiting}
 use Rattle.cgs_pairs.specs.Passed.{is_passed, IsPairOf}
-use Rattle.cgs_basis.specs.BasisRun.{Completion, Pairs, leads_of, appended, with_generator, with_generators, with_remainder, pair_terms, with_taken}
+use Rattle.cgs_basis.specs.BasisRun.{Completion, Pairs, appended, with_generator, with_generators, with_remainder, pair_terms, with_taken}
 use Rattle.cgs_basis.specs.BasisRun.{passed_over, after_least, completed_in, start, completion, basis_run}
-use Rattle.cgs_basis.specs.Completion.{IsCompletion}
 use Rattle.cgs_basis.proofs.RepresentedLemmas.{pair_canonical}
-use Rattle.cgs_basis.proofs.StateLemmas.{appended_completion}
+use Rattle.cgs_basis.proofs.StateLemmas.{appended_monic, appended_known}
 
 -- a run that goes on had no degree that is too high
 low_enough : (b : Bool) (units : ℕ) (run : Ending (List (List Term))) (R : List (List Term)) (left : ℕ)
@@ -36,19 +34,21 @@ low_enough false units run R left e = refl
 -- the polynomials of a list are of the ring
 
 module _ (ring : Ring) (r : IsRing ring) where
-  -- the queue of a state
-  abbrev queue_of : Completion → WaitingPairs
-  queue_of s = record { order = order_of ring; leads = leads_of s.members; pairs = s.pairs }
-
   -- a state whose members are monic polynomials of the ring
-  abbrev IsHeld : Completion → Type 0
-  IsHeld s = IsCompletion ring s.members (queue_of s)
+  record IsHeld (s : Completion) : Type 0 where
+    monic : AreMonic ring s.members
+    polys : ArePolys ring s.members
+    known : (q : Pair) → IsWaiting q s.pairs → IsPairOf s.members q
 
   monic_held : (s : Completion) (x : Term) (f : List Term) → IsHeld s → IsPoly ring (x ∷ f) → IsHeld (appended ring s (monic_of ring (x ∷ f)))
   monic_held s x f h k =
       let g : List Term = monic_of ring (x ∷ f) in
-      appended_completion ring s.members (queue_of s) g h (queue_of (appended ring s g)) refl (map-append leading_monomial s.members (g ∷ [])) refl
-      (monic_poly ring r (x ∷ f) k) (monic_one ring r x f k.canonical)
+      let poly : IsPoly ring (monic_of ring (x ∷ f)) = monic_poly ring r (x ∷ f) k in
+      record {
+        monic = appended_monic ring [] s.members g h.monic poly.canonical (monic_one ring r x f k.canonical);
+        polys = all_push (IsPoly ring) s.members g h.polys poly;
+        known = appended_known ring [] s.members g s.pairs h.known;
+      }
 
   -- the generators
 
@@ -67,13 +67,7 @@ module _ (ring : Ring) (r : IsRing ring) where
   started : (F : List (List Term)) → ArePolys ring F → IsHeld (start ring F)
   started F k =
       generators_held F (record { members = []; pairs = [] })
-      (record {
-        order = refl;
-        leads = refl;
-        monic = record { canonical = tt; monic = tt };
-        polys = tt;
-        known = λ q w. absurd w;
-      }) k
+      (record { monic = record { canonical = tt; monic = tt }; polys = tt; known = λ q w. absurd w }) k
 
   -- the run
 
@@ -83,7 +77,7 @@ module _ (ring : Ring) (r : IsRing ring) where
 
   rest_held : (G : List (List Term)) (q : Pair) (pairs : List Pair) → IsHeld (record { members = G; pairs = q ∷ pairs })
       → IsHeld (record { members = G; pairs = pairs })
-  rest_held G q pairs h = record { order = refl; leads = refl; monic = h.monic; polys = h.polys; known = λ x v. h.known x (inr v) }
+  rest_held G q pairs h = record { monic = h.monic; polys = h.polys; known = λ x v. h.known x (inr v) }
 
   passed_held : (G : List (List Term)) (pairs : List Pair) (taken : List (ℕ × ℕ)) → IsHeld (record { members = G; pairs = pairs })
       → IsHeld (record { members = G; pairs = (passed_over G pairs taken).waiting })

@@ -1,35 +1,31 @@
 -- The least pair that waits is passed exactly where it is passed for ever: the law of ranks.
 use Rattle.std.proofs.Common.{ℕ, suc, ◌≡◌, ◌+◌, ◌<◌, ◌≤◌, ◌⊎◌, inl, inr, Bool, true, false, not, cond, ltb, ◌&&◌, ◌||◌, ◌==◌, List, [], ◌∷◌, ◌++◌}
 use Rattle.std.proofs.Common.{length, get_or, zero-add, refl, sym, ap, ◌∙◌, subst, arith}
-use Rattle.std.specs.List.{AllByRecursion}
 use Rattle.std.specs.declared.cmp.Ordering.{Ordering}
 use Rattle.std.specs.declared.cmp.Ordering.TheVariants.{Less, Equal, Greater}
 use Rattle.std.specs.Cmp.{both_ways}
-use Rattle.std.specs.Ordering.{nat_cmp, is_lt, ordering_then}
+use Rattle.std.specs.Ordering.{is_lt}
 use Rattle.std.proofs.Math.Seq.{get_or-append_seam}
 use Rattle.std.proofs.lemmas.Bool.{and_parts, and_from, or_left, or_right, eq-eqb, eqb-false, ltb-true, ltb-false, lt-ltb, not-true, cases_lt}
 use Rattle.std.proofs.lemmas.List.{length-append, length-map, map-append, get_or_append_left}
-use Rattle.cgs_list.proofs.ListLemmas.{all_at_place}
-use Rattle.cgs_exps.specs.Monomial.{divides, coprime, quotient, lcm}
-use Rattle.cgs_exps.proofs.MonomialLemmas.{quotient_product, quotient_length, lcm_length, lcm_divides, divides_lcm_left, lcm_comm}
+use Rattle.cgs_exps.specs.Monomial.{divides, coprime, lcm}
 use Rattle.cgs_order.specs.declared.block.BlockOrder.{BlockOrder}
 use Rattle.cgs_order.specs.TermOrder.{compared}
-use Rattle.cgs_order.proofs.OrderLemmas.{compared_back}
 use Rattle.cgs_poly.specs.Ring.{Ring}
 use Rattle.cgs_poly.specs.Polynomial.{Term, order_of}
 use Rattle.cgs_poly.specs.Product.{leading_monomial}
 use Rattle.cgs_poly.specs.Monic.{monic_of}
 use Rattle.cgs_poly.specs.Same.{is_among}
-use Rattle.cgs_poly.proofs.ProductOrderLemmas.{compared_grown}
 use Rattle.cgs_algebra.specs.Groebner.{leading_monomial_at}
 use Rattle.cgs_pairs.specs.declared.pair.Pair.{Pair}
 use Rattle.cgs_pairs.specs.PairOrder.{pair, pair_compared, with_pairs, IsWaiting, IsAscending}
-use Rattle.cgs_pairs.specs.Runs.{pair_at}
+use Rattle.cgs_pairs.specs.Runs.{pair_at, AreLeads}
 use Rattle.cgs_pairs.specs.Passed.{has_pair, was_taken, is_third, has_third, is_passed, IsPairOf}
 use Rattle.cgs_pairs.specs.Unpassed.{pair_between, precedes, is_earlier_third, has_earlier_third, is_ever_passed, unpassed}
 use Rattle.cgs_pairs.proofs.PairLemmas.{pairs_here, pairs_kept, pairs_from}
 use Rattle.cgs_pairs.proofs.PassedLemmas.{has_noted, noted_from}
 use Rattle.cgs_pairs.proofs.QueueLemmas.{pair_total, below_others, ascending_rest}
+use Rattle.cgs_pairs.proofs.EarlierLemmas.{earlier, not_above, pair_long, smaller_divides, larger_divides}
 use Rattle.cgs_pairs.proofs.UnpassedLemmas.{pair_more}
 use Rattle.cgs_basis.specs.BasisRun.{Completion, Pairs, leads_of, appended, with_generator, with_generators, with_remainder, with_taken, passed_over}
 use Rattle.cgs_basis.proofs.StateLemmas.{lead_here}
@@ -53,52 +49,13 @@ less_from Less e = refl
 less_from Equal e = absurd (cc)
 less_from Greater e = absurd (cc)
 
--- a divisor is not above
-divisor_not_above : (order : BlockOrder) (m n : List ℕ) → length m ≡ length n → divides m n ≡ true → compared order n m ≡ Less → ⊥
-divisor_not_above order m n l d e =
-    compared_grown order (quotient n m) m (quotient_length n m (length m) (sym l) refl)
-    (subst (λ a. compared order a m ≡ Less) (sym (quotient_product n m (sym l) d)) e)
-
--- a pair with a lower lcm or the same, and a smaller larger place, comes before
-earlier : (order : BlockOrder) (p q : Pair) → (compared order q.lcm p.lcm ≡ Less → ⊥) → p.larger < q.larger → pair_compared order p q ≡ Less
-earlier order p q n l = by_order (compared order p.lcm q.lcm) refl
-  where
-    by_order : (o : Ordering) → compared order p.lcm q.lcm ≡ o
-        → ordering_then (ordering_then o (nat_cmp p.larger q.larger)) (nat_cmp p.smaller q.smaller) ≡ Less
-    by_order Less e = refl
-    by_order Equal e = rw (lt-ltb p.larger q.larger l) refl
-    by_order Greater e = absurd (n (compared_back order p.lcm q.lcm e))
-
 -- the law of ranks
 
-module _ (order : BlockOrder) (leads : List (List ℕ)) (right : AllByRecursion (λ l. length l ≡ order.head + order.tail) leads) (q : Pair)
+module _ (order : BlockOrder) (leads : List (List ℕ)) (right : AreLeads order leads) (q : Pair)
     (pairs : List Pair) (taken : List (ℕ × ℕ)) (a : IsAscending order (q ∷ pairs)) (here : IsPairAt leads q)
     (h : IsLedger order leads (q ∷ pairs) taken) where
-  lead_long : (i : ℕ) → i < length leads → length (get_or leads i []) ≡ order.head + order.tail
-  lead_long i l = all_at_place (λ m. length m ≡ order.head + order.tail) [] leads right i l
-
   within_smaller : q.smaller < length leads
   within_smaller = omega (arith, here.apart, here.within)
-
-  lcm_is : q.lcm ≡ lcm (get_or leads q.smaller []) (get_or leads q.larger [])
-  lcm_is = ap (λ (p : Pair). p.lcm) here.is
-
-  lcm_long : length q.lcm ≡ order.head + order.tail
-  lcm_long = ap length lcm_is
-      ∙ lcm_length (get_or leads q.smaller []) (get_or leads q.larger []) (order.head + order.tail) (lead_long q.smaller within_smaller)
-      (lead_long q.larger here.within)
-
-  smaller_divides : divides (get_or leads q.smaller []) q.lcm ≡ true
-  smaller_divides =
-      ap (λ m. divides (get_or leads q.smaller []) m) lcm_is
-      ∙ divides_lcm_left (get_or leads q.smaller []) (get_or leads q.larger [])
-      (lead_long q.smaller within_smaller ∙ sym (lead_long q.larger here.within))
-
-  larger_divides : divides (get_or leads q.larger []) q.lcm ≡ true
-  larger_divides =
-      let s = lead_long q.smaller within_smaller ∙ sym (lead_long q.larger here.within) in
-      ap (λ m. divides (get_or leads q.larger []) m) (lcm_is ∙ lcm_comm (get_or leads q.smaller []) (get_or leads q.larger []) s)
-      ∙ divides_lcm_left (get_or leads q.larger []) (get_or leads q.smaller []) (sym s)
 
   not_before_itself : (p : Pair) → pair_compared order p q ≡ Less → pair_compared order q p ≡ Less → ⊥
   not_before_itself p l k = let b = (pair_total order).antisymm p q in absurd (cc)
@@ -107,27 +64,15 @@ module _ (order : BlockOrder) (leads : List (List ℕ)) (right : AllByRecursion 
   not_least p l (inl e) = not_before_itself p l (subst (λ x. pair_compared order q x ≡ Less) (sym e) (subst (λ x. pair_compared order x q ≡ Less) e l))
   not_least p l (inr w) = not_before_itself p l (below_others order q pairs a p w)
 
-  -- the pair of two places whose leads divide the lcm was taken exactly where it comes before
-  law : (larger smaller : ℕ) → smaller < larger → larger < length leads → divides (get_or leads smaller []) q.lcm ≡ true
-      → divides (get_or leads larger []) q.lcm ≡ true → has_pair larger smaller taken ≡ precedes order (pair_at leads larger smaller) q
-  law larger smaller l k ds dl = both_ways (has_pair larger smaller taken) (precedes order (pair_at leads larger smaller) q) forth back
+  -- a pair of places with an lcm that is not above was taken exactly where it comes before
+  law : (larger smaller : ℕ) → smaller < larger → larger < length leads → (compared order q.lcm (pair_at leads larger smaller).lcm ≡ Less → ⊥)
+      → has_pair larger smaller taken ≡ precedes order (pair_at leads larger smaller) q
+  law larger smaller l k not_above = both_ways (has_pair larger smaller taken) (precedes order (pair_at leads larger smaller) q) forth back
     where
-      s_long : length (get_or leads smaller []) ≡ length q.lcm
-      s_long = lead_long smaller (omega arith) ∙ sym lcm_long
-
-      l_long : length (get_or leads larger []) ≡ length q.lcm
-      l_long = lead_long larger k ∙ sym lcm_long
-
-      not_above : compared order q.lcm (lcm (get_or leads smaller []) (get_or leads larger [])) ≡ Less → ⊥
-      not_above =
-          divisor_not_above order (lcm (get_or leads smaller []) (get_or leads larger [])) q.lcm
-          (lcm_length (get_or leads smaller []) (get_or leads larger []) (length q.lcm) s_long l_long)
-          (lcm_divides (get_or leads smaller []) (get_or leads larger []) q.lcm s_long l_long ds dl)
-
       forth : has_pair larger smaller taken ≡ true → precedes order (pair_at leads larger smaller) q ≡ true
       forth e = elim (h.before larger smaller e q (inl refl)) as (λ _. precedes order (pair_at leads larger smaller) q ≡ true) [
         | inl b ↦ ap is_lt b
-        | inr b ↦ ap is_lt (earlier order (pair_at leads larger smaller) q not_above b)
+        | inr b ↦ ap is_lt (earlier order (pair_at leads larger smaller) q not_above (rw (lt-ltb larger q.larger b) refl))
       ]
 
       back : precedes order (pair_at leads larger smaller) q ≡ true → has_pair larger smaller taken ≡ true
@@ -136,17 +81,18 @@ module _ (order : BlockOrder) (leads : List (List ℕ)) (right : AllByRecursion 
         | inr t ↦ t
       ]
 
-  -- the same, whichever place is larger
+  -- the pair of two places whose leads divide the lcm, whichever is larger
   taken_before : (i j : ℕ) → (i ≡ j → ⊥) → i < length leads → j < length leads → divides (get_or leads i []) q.lcm ≡ true
       → divides (get_or leads j []) q.lcm ≡ true → was_taken i j taken ≡ precedes order (pair_between leads i j) q
-  taken_before i j n k l di dj = by_test (ltb i j) refl
+  taken_before i j n k l di dj =
+      by_test (ltb i j) refl (not_above order leads right q (pair_long order leads right q within_smaller here.within here.is) i j k l di dj)
     where
-      by_test : (b : Bool) → ltb i j ≡ b
+      by_test : (b : Bool) → ltb i j ≡ b → (compared order q.lcm (cond b (pair_at leads j i) (pair_at leads i j)).lcm ≡ Less → ⊥)
           → cond b (has_pair j i taken) (has_pair i j taken) ≡ precedes order (cond b (pair_at leads j i) (pair_at leads i j)) q
-      by_test true e = law j i (ltb-true i j e) l di dj
-      by_test false e = law i j (omega (arith, ltb-false i j e, n)) k dj di
+      by_test true e above = law j i (ltb-true i j e) l above
+      by_test false e above = law i j (omega (arith, ltb-false i j e, n)) k above
 
-  pub third_same : (k : ℕ) → k < length leads
+  third_same : (k : ℕ) → k < length leads
       → (((not (k == q.smaller) && not (k == q.larger)) && divides (get_or leads k []) q.lcm) && was_taken k q.smaller taken) && was_taken k q.larger taken
       ≡ is_earlier_third order leads q k (get_or leads k [])
   third_same k l = by_test ((not (k == q.smaller) && not (k == q.larger)) && divides (get_or leads k []) q.lcm) refl
@@ -162,8 +108,10 @@ module _ (order : BlockOrder) (leads : List (List ℕ)) (right : AllByRecursion 
           let p = and_parts (not (k == q.smaller) && not (k == q.larger)) (divides (get_or leads k []) q.lcm) e in
           let n = and_parts (not (k == q.smaller)) (not (k == q.larger)) p.0 in
           both _ _ _ _
-          (taken_before k q.smaller (eqb-false k q.smaller (not-true (k == q.smaller) n.0)) l within_smaller p.1 smaller_divides)
-          (taken_before k q.larger (eqb-false k q.larger (not-true (k == q.larger) n.1)) l here.within p.1 larger_divides)
+          (taken_before k q.smaller (eqb-false k q.smaller (not-true (k == q.smaller) n.0)) l within_smaller p.1
+          (smaller_divides order leads right q within_smaller here.within here.is))
+          (taken_before k q.larger (eqb-false k q.larger (not-true (k == q.larger) n.1)) l here.within p.1
+          (larger_divides order leads right q within_smaller here.within here.is))
 
 -- the pairs of members
 
@@ -178,7 +126,7 @@ known_pair G q k = record {
     m : q.lcm ≡ lcm (get_or (leads_of G) q.smaller []) (get_or (leads_of G) q.larger [])
     m = k.lcm ∙ rw (lead_here G q.smaller (omega (arith, k.apart, k.within)), lead_here G q.larger k.within) refl
 
-module _ (order : BlockOrder) (G : List (List Term)) (right : AllByRecursion (λ l. length l ≡ order.head + order.tail) (leads_of G)) (q : Pair)
+module _ (order : BlockOrder) (G : List (List Term)) (right : AreLeads order (leads_of G)) (q : Pair)
     (pairs : List Pair) (taken : List (ℕ × ℕ)) (a : IsAscending order (q ∷ pairs)) (known : IsPairOf G q)
     (h : IsLedger order (leads_of G) (q ∷ pairs) taken) where
   here : IsPairAt (leads_of G) q
@@ -342,7 +290,7 @@ module _ (ring : Ring) where
 
 -- the pairs that are passed are left behind
 
-module _ (order : BlockOrder) (G : List (List Term)) (right : AllByRecursion (λ l. length l ≡ order.head + order.tail) (leads_of G)) where
+module _ (order : BlockOrder) (G : List (List Term)) where
   -- the first of some pairs waits first, and the others are those that are not passed for ever
   abbrev pub StartWith : List Pair → List Pair → Type 0
   StartWith [] waiting = waiting ≡ []
@@ -354,15 +302,16 @@ module _ (order : BlockOrder) (G : List (List Term)) (right : AllByRecursion (λ
     pub known : (q : Pair) → IsWaiting q w.waiting → IsPairOf G q
     pub ledger : IsLedger order (leads_of G) w.waiting w.taken
 
-  pub passed_past : (pairs : List Pair) (taken : List (ℕ × ℕ)) → IsAscending order pairs → ((q : Pair) → IsWaiting q pairs → IsPairOf G q)
-      → IsLedger order (leads_of G) pairs taken → IsPast (unpassed order (leads_of G) pairs) (passed_over G pairs taken)
-  passed_past [] taken a k h = record { first = refl; ascending = a; known = k; ledger = h }
-  passed_past (q ∷ pairs) taken a k h =
+  pub passed_past : AreLeads order (leads_of G) → (pairs : List Pair) (taken : List (ℕ × ℕ)) → IsAscending order pairs
+      → ((q : Pair) → IsWaiting q pairs → IsPairOf G q) → IsLedger order (leads_of G) pairs taken
+      → IsPast (unpassed order (leads_of G) pairs) (passed_over G pairs taken)
+  passed_past right [] taken a k h = record { first = refl; ascending = a; known = k; ledger = h }
+  passed_past right (q ∷ pairs) taken a k h =
       subst (λ b. IsPast (unpassed order (leads_of G) (q ∷ pairs))
       (cond b (passed_over G pairs (with_taken taken q)) (record { waiting = q ∷ pairs; taken = taken })))
       (sym (passed_same order G right q pairs taken a (k q (inl refl)) h))
       (by_test (is_ever_passed order (leads_of G) q)
-      (passed_past pairs (with_taken taken q) (ascending_rest order q pairs a) (λ p w. k p (inr w))
+      (passed_past right pairs (with_taken taken q) (ascending_rest order q pairs a) (λ p w. k p (inr w))
       (ledger_taken order (leads_of G) q pairs taken a (known_pair G q (k q (inl refl))) h)))
     where
       by_test : (b : Bool) → IsPast (unpassed order (leads_of G) pairs) (passed_over G pairs (with_taken taken q))

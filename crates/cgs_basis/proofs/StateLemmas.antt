@@ -7,23 +7,30 @@ use Rattle.std.proofs.lemmas.List.{length-append, length-map, map-append, get_or
 use Rattle.cgs_exps.specs.Monomial.{lcm}
 use Rattle.cgs_order.specs.declared.block.BlockOrder.{BlockOrder}
 use Rattle.cgs_poly.specs.Ring.{Ring}
-use Rattle.cgs_poly.specs.Polynomial.{Term, order_of, IsPoly, IsCanonical}
+use Rattle.cgs_poly.specs.Polynomial.{Term, places, order_of, IsRing, IsPoly, IsCanonical}
 use Rattle.cgs_poly.specs.Product.{leading_monomial, leading_coefficient}
 use Rattle.cgs_algebra.specs.Combination.{IsMember}
 use Rattle.cgs_algebra.specs.Groebner.{AreMonic, leading_monomial_at}
 use Rattle.cgs_algebra.specs.SPolynomial.{pair_lcm, HasLcmRepresentation}
 use Rattle.cgs_pairs.specs.declared.pair.Pair.{Pair}
-use Rattle.cgs_pairs.specs.PairOrder.{pair, with_pairs, IsWaiting}
-use Rattle.cgs_pairs.specs.Runs.{WaitingPairs}
+use Rattle.cgs_pairs.specs.PairOrder.{pair, with_pairs, IsWaiting, HavePlaces}
+use Rattle.cgs_pairs.specs.Runs.{WaitingPairs, AreLeads}
 use Rattle.cgs_pairs.specs.Passed.{IsPairOf}
+use Rattle.cgs_pairs.specs.Unpassed.{unpassed}
 use Rattle.cgs_pairs.proofs.PairLemmas.{pairs_here, pairs_from}
+use Rattle.cgs_pairs.proofs.QueueLemmas.{with_pairs_ascending}
+use Rattle.cgs_pairs.proofs.UnpassedLemmas.{unpassed_before}
 use Rattle.std.specs.List.{AllByRecursion}
 use Rattle.cgs_poly.specs.Monic.{monic_of}
 use Rattle.cgs_poly.specs.Same.{is_among}
-use Rattle.cgs_list.proofs.ListLemmas.{all_push}
+use Rattle.cgs_list.proofs.ListLemmas.{all_push, all_weaker, all_by_places}
 use Rattle.cgs_basis.specs.BasisRun.{Completion, leads_of, with_last, appended, with_generator, with_remainder}
-use Rattle.cgs_basis.specs.Completion.{IsCompletion}
+use Rattle.cgs_basis.specs.Completion.{IsCompletion, StandFor}
 use Rattle.cgs_algebra.proofs.GrowthLemmas.{representation_more}
+use Rattle.cgs_algebra.proofs.RepresentationLemmas.{lead_at_length}
+use Rattle.cgs_exps.proofs.MonomialLemmas.{lcm_length}
+use Rattle.cgs_poly.proofs.MultipleLemmas.{lead_length, monic_not_empty}
+use Rattle.cgs_poly.proofs.RingLemmas.{ring_positive, places_few}
 
 -- what is known of the members and of the pairs that wait
 
@@ -61,7 +68,7 @@ module _ (ring : Ring) (F G : List (List Term)) (g : List Term) where
   long : length (G ++ g ∷ []) ≡ suc (length G)
   long = omega (arith, length-append G (g ∷ []))
 
-  appended_monic : AreMonic ring G → IsCanonical ring g → leading_coefficient g ≡ 1 → AreMonic ring (G ++ g ∷ [])
+  pub appended_monic : AreMonic ring G → IsCanonical ring g → leading_coefficient g ≡ 1 → AreMonic ring (G ++ g ∷ [])
   appended_monic h can one =
       record { canonical = all_push (IsCanonical ring) G g h.canonical can; monic = all_push (λ f. leading_coefficient f ≡ 1) G g h.monic one }
 
@@ -79,7 +86,7 @@ module _ (ring : Ring) (F G : List (List Term)) (g : List Term) where
   lead_at k l = get_or-map leading_monomial G k [] [] l ∙ ap leading_monomial (sym (get_or_append_left G (g ∷ []) [] k l))
 
   -- the pairs that wait are pairs of the longer list
-  appended_known : (pairs : List Pair) → ((q : Pair) → IsWaiting q pairs → IsPairOf G q) → (q : Pair)
+  pub appended_known : (pairs : List Pair) → ((q : Pair) → IsWaiting q pairs → IsPairOf G q) → (q : Pair)
       → IsWaiting q (with_last (order_of ring) G g pairs) → IsPairOf (G ++ g ∷ []) q
   appended_known pairs h q w =
       elim (pairs_from (order_of ring) (leading_monomial g) (length G) 0 (leads_of G) pairs q w) as (λ _. IsPairOf (G ++ g ∷ []) q) [
@@ -131,22 +138,83 @@ new_waits order G g pairs k l = (
 pub lead_here : (G : List (List Term)) (i : ℕ) → i < length G → get_or (leads_of G) i [] ≡ leading_monomial_at G i
 lead_here G i l = get_or-map leading_monomial G i [] [] l
 
+-- each lead has as many places as the order
+pub members_leads : (ring : Ring) (G : List (List Term)) → IsRing ring → AreMonic ring G → AreLeads (order_of ring) (leads_of G)
+members_leads ring G r ok =
+    all_by_places (λ m. (length m ≡ (order_of ring).head + (order_of ring).tail) × (length m ≤ 17)) [] (leads_of G) (λ i l.
+    let k : i < length G = omega (arith, l, length-map G leading_monomial) in
+    let long : length (get_or (leads_of G) i []) ≡ places ring = ap length (lead_here G i k) ∙ lead_at_length ring G (ring_positive ring r) ok i k in
+    (long, omega (arith, long, places_few ring r)))
+
 -- a polynomial at the end, with its pairs
 
-module _ (ring : Ring) (G : List (List Term)) (queue : WaitingPairs) (g : List Term) (h : IsCompletion ring G queue) where
-  -- as the queue says it, and as the run says it
-  pub queue_pairs : with_pairs queue.order (leading_monomial g) (length queue.leads) 0 queue.leads queue.pairs ≡ with_last (order_of ring) G g queue.pairs
-  queue_pairs = rw (h.order, h.leads, length-map G leading_monomial) refl
-
-  pub appended_completion : (after : WaitingPairs) → after.order ≡ queue.order → after.leads ≡ queue.leads ++ leading_monomial g ∷ []
-      → after.pairs ≡ with_last (order_of ring) G g queue.pairs → IsPoly ring g → leading_coefficient g ≡ 1 → IsCompletion ring (G ++ g ∷ []) after
-  appended_completion after o l p poly one = record {
+module _ (ring : Ring) (G : List (List Term)) (queue : WaitingPairs) (g : List Term) (h : IsCompletion ring G queue) (poly : IsPoly ring g)
+    (one : leading_coefficient g ≡ 1) (after : WaitingPairs) where
+  pub appended_completion : after.order ≡ queue.order → after.leads ≡ queue.leads ++ leading_monomial g ∷ [] → IsCompletion ring (G ++ g ∷ []) after
+  appended_completion o l = record {
     order = o ∙ h.order;
     leads = l ∙ (ap (λ ls. ls ++ leading_monomial g ∷ []) h.leads ∙ sym (map-append leading_monomial G (g ∷ [])));
     monic = appended_monic ring [] G g h.monic poly.canonical one;
     polys = all_push (IsPoly ring) G g h.polys poly;
-    known = λ q w. appended_known ring [] G g queue.pairs h.known q (subst (λ pairs. IsWaiting q pairs) p w);
   }
+
+  module _ (r : IsRing ring) where
+    abbrev order : BlockOrder
+    order = order_of ring
+
+    abbrev leads : List (List ℕ)
+    leads = leads_of G
+
+    lead : length (leading_monomial g) ≡ order.head + order.tail
+    lead = lead_length ring g poly.canonical (monic_not_empty g one)
+
+    right : AllByRecursion (λ l. length l ≡ order.head + order.tail) (leads_of G)
+    right =
+        all_weaker (λ m. (length m ≡ order.head + order.tail) × (length m ≤ 17)) (λ m. length m ≡ order.head + order.tail) (leads_of G)
+        (members_leads ring G r h.monic) (λ m p. p.0)
+
+    pos : 0 < ring.modulus
+    pos = ring_positive ring r
+
+    places_known : (pairs : List Pair) → ((q : Pair) → IsWaiting q pairs → IsPairOf G q) → HavePlaces order pairs
+    places_known [] k = tt
+    places_known (q ∷ pairs) k = (
+      let is = k q (inl refl) in
+          ap length is.lcm
+          ∙ lcm_length (leading_monomial_at G q.smaller) (leading_monomial_at G q.larger) (order.head + order.tail)
+          (lead_at_length ring G pos h.monic q.smaller (omega (arith, is.apart, is.within))) (lead_at_length ring G pos h.monic q.larger is.within),
+      places_known pairs (λ p w. k p (inr w)),
+    )
+
+    -- the queue with the new pairs, without those that are passed
+    module _ (e : after.pairs ≡ unpassed queue.order (queue.leads ++ leading_monomial g ∷ [])
+        (with_pairs queue.order (leading_monomial g) (length queue.leads) 0 queue.leads queue.pairs)) where
+      from_members : (pairs : List Pair) → StandFor ring (record { members = G; pairs = pairs }) G queue
+          → StandFor ring (appended ring (record { members = G; pairs = pairs }) g) (G ++ g ∷ []) after
+      from_members pairs k =
+          let m : List ℕ = leading_monomial g in
+          let long : length (leads_of G) ≡ length G = length-map G leading_monomial in
+          let old : after.pairs ≡ unpassed order (leads_of G ++ leading_monomial g ∷ [])
+          (with_pairs order (leading_monomial g) (length (leads_of G)) 0 (leads_of G) (unpassed order (leads_of G) pairs)) =
+          e ∙ rw (h.order, h.leads, k.pairs) refl in
+          let all : after.pairs ≡ unpassed order (leads_of G ++ leading_monomial g ∷ [])
+          (with_pairs order (leading_monomial g) (length (leads_of G)) 0 (leads_of G) pairs) =
+          old ∙ unpassed_before order (leads_of G) (leading_monomial g) lead right pairs
+          (record { ascending = k.ascending; places = places_known pairs k.known })
+          (λ q w. let is = k.known q w in (omega (arith, is.apart, is.within, long), omega (arith, is.within, long))) in
+          record {
+            members = refl;
+            pairs = all ∙ rw (map-append leading_monomial G (g ∷ []), length-map G leading_monomial) refl;
+            ascending = with_pairs_ascending order (leading_monomial g) (length G) 0 (leads_of G) pairs lead right k.ascending (places_known pairs k.known)
+                (λ q w. inl (k.known q w).within);
+            known = appended_known ring [] G g pairs k.known;
+          }
+
+      pub appended_stand : (s : Completion) → StandFor ring s G queue → StandFor ring (appended ring s g) (G ++ g ∷ []) after
+      appended_stand s k =
+          let is : s ≡ record { members = G; pairs = s.pairs } = λ t. record { members = k.members t; pairs = s.pairs } in
+          subst (λ u. StandFor ring (appended ring u g) (G ++ g ∷ []) after) (sym is)
+          (from_members s.pairs (subst (λ u. StandFor ring u G queue) is k))
 
 -- a generator or a remainder that is not 0
 

@@ -1,22 +1,21 @@
 //! Completion: Buchberger's algorithm up to a Gröbner basis that need not be reduced.
 
-ghost use Rattle.std.specs.Prelude.{◌≡◌, ◌≤◌, [], ◌∷◌, IfOk, IfSome, IsNone, OnOk};
+ghost use Rattle.std.specs.Prelude.{◌≡◌, ◌≤◌, IfOk, OnOk};
 ghost use Rattle.cgs_poly.specs.Polynomial.{IsRing, IsPoly, ArePolys};
 ghost use Rattle.cgs_poly.specs.Product.{leading_coefficient};
 ghost use Rattle.cgs_algebra.specs.Groebner.{AreMonic, IsGroebnerBasis};
 ghost use Rattle.cgs_divide.specs.Ending.{EndsAs};
-ghost use Rattle.cgs_pairs.specs.Passed.{IsPairOf};
-ghost use Rattle.cgs_basis.specs.BasisRun.{appended, with_generator, with_remainder, completion};
-ghost use Rattle.cgs_basis.specs.BasisRun as run;
-ghost use Rattle.cgs_basis.specs.Completion.{IsCompletion};
+ghost use Rattle.cgs_basis.specs.BasisRun.{Completion, appended, with_generator, with_remainder, completion};
+ghost use Rattle.cgs_basis.specs.Completion.{IsCompletion, StandFor};
 
 use cgs_divide::{Stop, remainder, spend};
-use cgs_pairs::{Pair, Taken, Waiting, passes, s_polynomial};
+use cgs_pairs::{Waiting, s_polynomial};
 use cgs_poly::{Poly, PolyList, Ring, is_among};
 use std::alloc::{AllocError, Global};
 
 /// A Gröbner basis of the ideal of the generators, with them at the front. A pair that is not passed costs one unit, and
-/// the remainder of its S-polynomial is put at the end. Units and errors are as for `divide`.
+/// the remainder of its S-polynomial is put at the end. The leads alone tell which pairs are passed, so none of these
+/// waits. Units and errors are as for `divide`.
 pub fn complete(
     alloc: Global,
     ring: &Ring,
@@ -33,12 +32,10 @@ pub fn complete(
 {
     let mut members = PolyList::new(alloc);
     let mut queue = Waiting::new(alloc, ring.order());
-    let mut taken = Taken::new(alloc);
     for i in 0..generators.len() {
         append_generator(alloc, ring, &mut members, &mut queue, generators.get(i))?;
     }
-    while let Some(pair) = take_unpassed(ring, &members, &mut queue, &mut taken)? {
-        taken.note(pair.larger, pair.smaller)?;
+    while let Some(pair) = queue.take_least()? {
         spend(fuel, 1)?;
         let s = s_polynomial(
             alloc,
@@ -52,29 +49,6 @@ pub fn complete(
     Ok(members)
 }
 
-// Takes out the least pair that is not passed, if there is one. The pairs that are passed before it are noted.
-fn take_unpassed(
-    ring: &Ring,
-    members: &PolyList,
-    queue: &mut Waiting,
-    taken: &mut Taken,
-) -> Result<Option<Pair>, AllocError>
-    requires ring { IsRing ring.now }
-    requires completion { IsCompletion ring.now members.now queue.old }
-    ensures none { IfOk result (λ least. IsNone least → run.passed_over members.now queue.old.pairs taken.old ≡ record { waiting = []; taken = taken.new }) }
-    ensures some { IfOk result (λ least. IfSome least (λ q. run.passed_over members.now queue.old.pairs taken.old ≡ record { waiting = q ∷ queue.new.pairs; taken = taken.new })) }
-    ensures pair { IfOk result (λ least. IfSome least (λ q. IsPairOf members.now q)) }
-    ensures completion { OnOk result (IsCompletion ring.now members.now queue.new) }
-{
-    while let Some(next) = queue.take_least()? {
-        if !passes(&next, members, taken) {
-            return Ok(Some(next));
-        }
-        taken.note(next.larger, next.smaller)?;
-    }
-    Ok(None)
-}
-
 // Puts a generator, made monic, at the end, unless it is 0 or is there.
 fn append_generator(
     alloc: Global,
@@ -86,7 +60,7 @@ fn append_generator(
     requires ring { IsRing ring.now }
     requires completion { IsCompletion ring.now members.old queue.old }
     requires poly { IsPoly ring.now f.now }
-    ensures state { OnOk result (run.completion_of members.new queue.new ≡ with_generator ring.now (run.completion_of members.old queue.old) f.now) }
+    ensures state { OnOk result ((s : Completion) → StandFor ring.now s members.old queue.old → StandFor ring.now (with_generator ring.now s f.now) members.new queue.new) }
     ensures completion { OnOk result (IsCompletion ring.now members.new queue.new) }
 {
     if f.len() == 0 {
@@ -110,7 +84,7 @@ fn append_remainder(
     requires ring { IsRing ring.now }
     requires completion { IsCompletion ring.now members.old queue.old }
     requires poly { IsPoly ring.now f.now }
-    ensures state { OnOk result (run.completion_of members.new queue.new ≡ with_remainder ring.now (run.completion_of members.old queue.old) f.now) }
+    ensures state { OnOk result ((s : Completion) → StandFor ring.now s members.old queue.old → StandFor ring.now (with_remainder ring.now s f.now) members.new queue.new) }
     ensures completion { OnOk result (IsCompletion ring.now members.new queue.new) }
 {
     if f.len() == 0 {
@@ -132,7 +106,7 @@ fn append(
     requires completion { IsCompletion ring.now members.old queue.old }
     requires poly { IsPoly ring.now g }
     requires lead { leading_coefficient g ≡ 1 }
-    ensures state { OnOk result (run.completion_of members.new queue.new ≡ appended ring.now (run.completion_of members.old queue.old) g) }
+    ensures state { OnOk result ((s : Completion) → StandFor ring.now s members.old queue.old → StandFor ring.now (appended ring.now s g) members.new queue.new) }
     ensures completion { OnOk result (IsCompletion ring.now members.new queue.new) }
 {
     queue.append(g.term(0).exponents)?;

@@ -53,7 +53,7 @@ power_by_polys ring i ((y ∷ f) ∷ G) = ap (λ b. lead_is_power ring i (y ∷ 
 
 -- a loop over the polynomials
 
-at_place : (G : List (List Term)) (i : ℕ) (g : List Term) → i < length G → g ≡ get_or G i g → drop i G ≡ g ∷ drop (i + 1) G
+pub at_place : (G : List (List Term)) (i : ℕ) (g : List Term) → i < length G → g ≡ get_or G i g → drop i G ≡ g ∷ drop (i + 1) G
 at_place G i g l e = drop_more G i g l ∙ ap (λ f. f ∷ drop (i + 1) G) (sym e)
 
 pub any_here : (test : List Term → Bool) (G : List (List Term)) (i : ℕ) (g : List Term) → i < length G → g ≡ get_or G i g → test g ≡ true

@@ -1,14 +1,15 @@
 -- One place of the walk through the box: what the exponents before a place give, and where to stop.
 use Rattle.std.proofs.Common.{ℕ, zero, suc, ◌≡◌, ◌+◌, ◌-◌, ◌<◌, ◌≤◌, inl, inr, Bool, true, false, not, cond, List, [], ◌∷◌, ◌++◌, length, map, min, take, drop}
-use Rattle.std.proofs.Common.{set, replicate, refl, sym, ap, ◌∙◌, arith, add-one, append_assoc, length-append}
-use Rattle.std.proofs.lemmas.Bool.{both_ways, cases_lt, and_parts}
+use Rattle.std.proofs.Common.{set, replicate, nat_le, refl, sym, ap, ◌∙◌, subst, arith, add-one, append_assoc, length-append}
+use Rattle.std.proofs.lemmas.Bool.{both_ways, cases_lt, and_parts, le-leb, lt-leb, leb-true}
 use Rattle.std.proofs.lemmas.List.{get_or_at, length-replicate, take_more_set, set_split, drop-set-lt, take-replicate, length-take-le, drop-drop}
 use Rattle.std.proofs.lemmas.List.{drop-replicate, length-drop}
 use Rattle.std.proofs.lemmas.List.Sums.{sum_by-append, sum_by-cons}
 use Rattle.cgs_report.specs.Standard.{has_divisor}
 use Rattle.cgs_report.specs.Box.{has_power, have_powers, side, starting, box}
 use Rattle.cgs_report.specs.Laws.{HavePlaces}
-use Rattle.cgs_report.specs.Walk.{standard_after}
+use Rattle.cgs_report.specs.Walk.{standard_after, least_last}
+use Rattle.cgs_report.proofs.LastLemmas.{least_divides}
 use Rattle.cgs_report.proofs.DivisorLemmas.{divisor_more, corner_divides, side_divides}
 
 -- the count over lists
@@ -196,6 +197,37 @@ module _ (n i s : ℕ) (L : List (List ℕ)) (m : List ℕ) (h : HavePlaces n L)
       let b = one_more n i (n - (i + 1)) L (take i m) h prefix all e later in
       let r = one_after e count in
       omega (arith, b, r)
+
+  -- at the last place those below the least exponent with a divisor are counted
+  below_least : (b : ℕ) → ((e : ℕ) → e < b → has_divisor L (take i m ++ e ∷ []) ≡ false) → standard_after L (take i m) (starting b ([] ∷ [])) ≡ b
+  below_least zero apart = refl
+  below_least (suc b) apart =
+      let p : List ℕ = take i m in
+      let one : standard_after L p (map (λ m. b ∷ m) ([] ∷ [])) ≡ 1 =
+      after_cons L p (b ∷ []) [] ∙ rw (apart b (omega arith)) refl in
+      let rest = below_least b (λ e k. apart e (omega arith)) in
+      after_append L p (starting b ([] ∷ [])) (map (λ m. b ∷ m) ([] ∷ [])) ∙ omega (arith, one, rest)
+
+  pub answer_at_least : i + 1 ≡ n → side i L ≤ 32767 → (least : ℕ) → least ≡ least_last (take i m) L → min (before + least) (most + 1) ≡ answer
+  answer_at_least last low least is =
+      let p : List ℕ = take i m in
+      let none : n - (i + 1) ≡ 0 = omega arith in
+      let places : HavePlaces (length p + 1) L = subst (λ k. HavePlaces k L) (let a = prefix in omega (arith, a)) h in
+      let at : (e : ℕ) → e < 32768 → has_divisor L (p ++ e ∷ []) ≡ nat_le least e = λ e b.
+      least_divides p L e places b ∙ ap (λ k. nat_le k e) (sym is) in
+      let past : has_divisor L (p ++ side i L ∷ replicate (n - (i + 1)) 0) ≡ true =
+      past_side n i (n - (i + 1)) L p h prefix all power (side i L) (omega arith) in
+      let past_last : has_divisor L (p ++ side i L ∷ []) ≡ true = ap (λ k. has_divisor L (p ++ side i L ∷ replicate k 0)) (sym none) ∙ past in
+      let below : least ≤ side i L = leb-true least (side i L) (sym (at (side i L) (omega arith)) ∙ past_last) in
+      let here : has_divisor L (p ++ least ∷ replicate (n - (i + 1)) 0) ≡ true =
+      ap (λ k. has_divisor L (p ++ least ∷ replicate k 0)) none ∙ (at least (omega (arith, below)) ∙ le-leb least least (omega arith)) in
+      let boxes : later ≡ [] ∷ [] = ap (λ k. box L (i + 1) k) none in
+      let counted : standard_after L p (starting least ([] ∷ [])) ≡ least =
+      below_least least (λ e k. at e (omega (arith, below)) ∙ lt-leb least e k) in
+      let a = whole in
+      let b = stop_whole n i (n - (i + 1)) L p h prefix all power least later here in
+      let c : standard_after L p (starting least later) ≡ least = ap (λ M. standard_after L p (starting least M)) boxes ∙ counted in
+      omega (arith, a, b, c)
 
 -- the last place has no other after it
 pub last_standard : (L : List (List ℕ)) (m : List ℕ) (n i e : ℕ) → has_divisor L (take n (set m i e)) ≡ false → i + 1 ≡ n

@@ -1,13 +1,16 @@
 //! Tests of the variables' parts of leading monomials.
 
-ghost use Rattle.std.specs.Prelude.{◌≡◌, ◌<◌, length};
+ghost use Rattle.std.specs.Prelude.{◌≡◌, ◌+◌, ◌<◌, length};
 ghost use Rattle.cgs_poly.specs.Polynomial.{IsRing, IsPoly, ArePolys};
 ghost use Rattle.cgs_report.specs.Standard.{leads_x, has_divisor};
 ghost use Rattle.cgs_report.specs.Box.{has_power, is_one};
-ghost use Rattle.cgs_report.specs.Walk.{lead_divides, lead_is_power};
+ghost use Rattle.cgs_report.specs.Walk.{lead_divides, lead_is_power, least_last, lead_last};
 
-use cgs_exps::divides;
+use cgs_exps::{MAX_DEGREE, divides};
 use cgs_poly::{Poly, Ring};
+
+// How many exponents there are.
+pub(crate) const EXPONENTS: u16 = MAX_DEGREE as u16 + 1;
 
 /// Whether a leading monomial divides m.
 pub(crate) fn has_divisor(ring: &Ring, basis: &[Poly], m: &[u16]) -> bool
@@ -33,6 +36,33 @@ fn lead_divides(ring: &Ring, f: &Poly, m: &[u16]) -> bool
     match f.lead_x(ring) {
         Some(x) => divides(x, m),
         None => false,
+    }
+}
+
+/// The least last exponent of the leading monomials whose other exponents divide m; where there is none, one that is above
+/// all exponents.
+pub(crate) fn least_last(ring: &Ring, basis: &[Poly], m: &[u16]) -> u16
+    requires ring { IsRing ring.now }
+    requires polys { ArePolys ring.now basis.now }
+    requires places { length m.now + 1 ≡ ring.now.variables }
+    ensures { result ≡ least_last m.now (leads_x ring.now basis.now) }
+{
+    let mut least = EXPONENTS;
+    for f in basis {
+        least = least.min(lead_last(ring, f, m));
+    }
+    least
+}
+
+fn lead_last(ring: &Ring, f: &Poly, m: &[u16]) -> u16
+    requires ring { IsRing ring.now }
+    requires poly { IsPoly ring.now f.now }
+    requires places { length m.now + 1 ≡ ring.now.variables }
+    ensures { result ≡ lead_last ring.now m.now f.now }
+{
+    match f.lead_x(ring) {
+        Some(x) if divides(&x[..m.len()], m) => x[m.len()],
+        _ => EXPONENTS,
     }
 }
 

@@ -7,17 +7,13 @@ ghost use Rattle.cgs_report.specs.Standard.{IsStandard, leads_x, has_divisor};
 ghost use Rattle.cgs_report.specs.Box.{have_powers, box, standard_of};
 ghost use Rattle.cgs_report.specs.Walk.{standard_after};
 
-use crate::leads::{has_divisor, has_power};
-use cgs_exps::MAX_DEGREE;
+use crate::leads::{EXPONENTS, has_divisor, has_power, least_last};
 use cgs_poly::{Poly, Ring};
 
 /// The greatest number that is counted.
 pub const MOST_COUNTED: u64 = 1_000_000;
 
 const MAX_VARIABLES: usize = 9;
-
-// How many exponents there are.
-const EXPONENTS: u16 = MAX_DEGREE as u16 + 1;
 
 /// How many standard monomials there are.
 #[derive(Clone, Copy, Debug, PartialEq, Eq)]
@@ -62,7 +58,8 @@ fn have_powers(ring: &Ring, basis: &[Poly]) -> bool
 
 // What was counted before, and how many monomials that begin with the exponents of `m` before a place are standard. Where the
 // monomial with an exponent at the place, and 0 after it, has a divisor, so have all with this exponent or a greater one there:
-// they are passed over. The walk stops as soon as it passes `MOST_COUNTED`.
+// they are passed over. At the last place those below the least exponent that has a divisor are counted at once. The walk
+// stops as soon as it passes `MOST_COUNTED`.
 fn count_from(
     ring: &Ring,
     basis: &[Poly],
@@ -82,6 +79,10 @@ fn count_from(
     let variables = ring.variables as usize;
     if place == variables {
         return counted + 1;
+    }
+    if place + 1 == variables {
+        let least = least_last(ring, basis, &m[..place]);
+        return (counted + least as u64).min(MOST_COUNTED + 1);
     }
     let mut count = counted;
     for e in 0..EXPONENTS {

@@ -3,7 +3,7 @@ use Rattle.cgs_poly.specs.Polynomial.{greatest_degree}
 use Rattle.cgs_report.specs.declared.standard.TheConstants.{MAX_VARIABLES, MOST_COUNTED}
 use Rattle.cgs_report.specs.Standard.{leads_x}
 use Rattle.cgs_report.proofs.LeadLemmas.{leads_places, leads_low, side_low}
-use Rattle.cgs_report.proofs.WalkLemmas.{power_step, answer_at_corner, answer_at_end, answer_when_many, counted_more, zeros_after, last_standard}
+use Rattle.cgs_report.proofs.WalkLemmas.{power_step, answer_at_corner, answer_at_end, answer_at_least, answer_when_many, counted_more, zeros_after, last_standard}
 use Rattle.cgs_report.proofs.standard.+count_from.Goals as goal
 
 pub returns-then-has_divisor : goal.returns-then-has_divisor
@@ -64,3 +64,14 @@ count_from-count-requires t c =
         ),
       ),
     )
+
+pub returns-then-place-variables-2 : goal.returns-then-place-variables-2
+returns-then-place-variables-2 t c =
+    let l : c.args.place < c.args.ring.now.variables = omega (arith, c.requires.within, c.if-place-variables.false) in
+    c.min.ensures
+    ∙ answer_at_least c.args.ring.now.variables c.args.place MAX_VARIABLES (leads_x c.args.ring.now c.args.basis.now) c.args.m
+    (leads_places c.args.ring.now c.args.basis.now c.requires.polys) l c.requires.ring.variables c.requires.zeros c.requires.powers MOST_COUNTED
+    c.args.counted c.if-place-variables-2.true
+    (side_low c.args.place greatest_degree (leads_x c.args.ring.now c.args.basis.now)
+    (leads_low c.args.ring.now c.args.place c.args.basis.now l c.requires.polys))
+    c.least_last-least.result c.least_last-least.ensures

@@ -275,9 +275,10 @@ fn waiting_of(alloc: Global, leads: &[[u16; 2]]) -> Result<Waiting, AllocError> 
 
 #[test]
 fn waiting_pairs(rt: HostRuntime) -> Result<(), Fail> {
-    // x^2, x*y, x*y^2 and y^2: three pairs have the lcm x*y^2, one x^2*y, and two x^2*y^2
+    // x^2, x*y, x*y^2 and y^2: three pairs have the lcm x*y^2, one x^2*y, and two x^2*y^2. That of x^2 and x*y^2 is passed by
+    // x*y, and so is that of x*y^2 and y^2; x^2 and y^2 have nothing in common.
     let mut waiting = waiting_of(rt.alloc(), &[[2, 0], [1, 1], [1, 2], [0, 2]])?;
-    for places in [(2, 1), (3, 1), (3, 2), (1, 0), (2, 0), (3, 0)] {
+    for places in [(2, 1), (3, 1), (1, 0)] {
         let pair = waiting.take_least()?.ok_or("no pair")?;
         assert_eq!(rt; (pair.larger, pair.smaller), places);
     }

@@ -3,7 +3,8 @@ use Rattle.cgs_poly.specs.Polynomial.{greatest_degree}
 use Rattle.cgs_report.specs.declared.standard.TheConstants.{MAX_VARIABLES, MOST_COUNTED}
 use Rattle.cgs_report.specs.Standard.{leads_x}
 use Rattle.cgs_report.proofs.LeadLemmas.{leads_places, leads_low, side_low}
-use Rattle.cgs_report.proofs.WalkLemmas.{power_step, answer_at_corner, answer_at_end, answer_at_least, answer_when_many, counted_more, zeros_after, last_standard}
+use Rattle.cgs_report.proofs.WalkLemmas.{power_step, answer_at_corner, answer_at_end, answer_at_least, answer_when_many}
+use Rattle.cgs_report.proofs.WalkLemmas.{counted_more, zeros_after, last_standard}
 use Rattle.cgs_report.proofs.standard.+count_from.Goals as goal
 
 pub returns-then-has_divisor : goal.returns-then-has_divisor

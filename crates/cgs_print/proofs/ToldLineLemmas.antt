@@ -16,13 +16,13 @@ use Rattle.cgs_problem.specs.declared.fault.TextKind.{TextKind}
 use Rattle.cgs_problem.specs.Lexemes.{line_lexemes}
 use Rattle.cgs_problem.specs.Lines.{lines_of}
 use Rattle.cgs_problem.specs.Sums.{Reader, polynomial_said}
-use Rattle.cgs_print.specs.Printing.{polynomial_text, polynomial_line, polynomial_lines}
+use Rattle.cgs_canonical.specs.Printing.{polynomial_text, polynomial_line, polynomial_lines}
 use Rattle.cgs_print.specs.Telling.{Place, cause_of}
-use Rattle.cgs_print.proofs.LexemeLemmas.{Passes, passes_append, is_plain, IsName, Says, line_says}
-use Rattle.cgs_print.proofs.MonomialLemmas.{IsReader, IsAllowed}
-use Rattle.cgs_print.proofs.PolynomialLemmas.{sum_said, polynomial_says, polynomial_reads, IsReadable}
-use Rattle.cgs_print.proofs.LineLemmas.{first_line, passing}
-use Rattle.cgs_print.proofs.BodyLemmas.{short}
+use Rattle.cgs_canonical.proofs.LexemeLemmas.{Passes, passes_append, is_plain, IsName, Says, line_says}
+use Rattle.cgs_canonical.proofs.MonomialLemmas.{IsReader, IsAllowed}
+use Rattle.cgs_canonical.proofs.PolynomialLemmas.{sum_said, polynomial_says, polynomial_reads, IsReadable}
+use Rattle.cgs_canonical.proofs.LineLemmas.{first_line, passing}
+use Rattle.cgs_canonical.proofs.BodyLemmas.{short}
 use Rattle.cgs_print.proofs.ToldPathLemmas.{begins, path_told, cause_told}
 
 -- a reader of any polynomial of a ring

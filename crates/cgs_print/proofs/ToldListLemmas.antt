@@ -18,14 +18,15 @@ use Rattle.cgs_report.specs.declared.standard.Standard.TheVariants.{NotFinite, M
 use Rattle.cgs_report.specs.Report.{findings_of}
 use Rattle.cgs_problem.specs.declared.problem.Problem.{Problem}
 use Rattle.cgs_problem.specs.Reading.{problem_spelled}
-use Rattle.cgs_print.specs.Printing.{polynomial_lines, cause_word, path_text, head_line, conditions_text, untested_line, answer_line, standard_line}
+use Rattle.cgs_canonical.specs.Printing.{polynomial_lines}
+use Rattle.cgs_print.specs.Printing.{cause_word, path_text, head_line, conditions_text, untested_line, answer_line, standard_line}
 use Rattle.cgs_print.specs.Printing.{findings_text, found_text, entry_text, count_line, list_text, members_line, basis_text}
 use Rattle.cgs_print.specs.Telling.{IsPrintable, ArePrintable, ListsAreTold, BasesAreTold}
-use Rattle.cgs_print.proofs.ConditionLemmas.{conditions_polys}
-use Rattle.cgs_print.proofs.LexemeLemmas.{Passes, passes_append, is_plain}
-use Rattle.cgs_print.proofs.LineLemmas.{passing}
-use Rattle.cgs_print.proofs.BodyLemmas.{reader_is, all_named}
-use Rattle.cgs_print.proofs.SpelledLemmas.{spelled_valid}
+use Rattle.cgs_canonical.proofs.ConditionLemmas.{conditions_polys}
+use Rattle.cgs_canonical.proofs.LexemeLemmas.{Passes, passes_append, is_plain}
+use Rattle.cgs_canonical.proofs.LineLemmas.{passing}
+use Rattle.cgs_canonical.proofs.BodyLemmas.{reader_is, all_named}
+use Rattle.cgs_canonical.proofs.SpelledLemmas.{spelled_valid}
 use Rattle.cgs_print.proofs.ToldPathLemmas.{path_told, cause_told, path_plain, path_reads, cause_reads, decimal_plain}
 use Rattle.cgs_print.proofs.ToldLineLemmas.{IsNamed, Told, fresh, headed, line_told, text_told, nothing_told, line_reads, zero_tells}
 use Rattle.cgs_print.proofs.ToldLineLemmas.{nonzero_tells, basis_tells}

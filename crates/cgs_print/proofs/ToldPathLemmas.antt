@@ -11,7 +11,7 @@ use Rattle.std.proofs.lemmas.Fmt.{decimal_is_IsNumeral}
 use Rattle.cgs_entry.specs.declared.entry.Cause.{Cause}
 use Rattle.cgs_entry.specs.declared.entry.Cause.TheVariants.{Budget, Degree, Depth}
 use Rattle.cgs_print.specs.Printing.{path_text, cause_word}
-use Rattle.cgs_print.proofs.LexemeLemmas.{Passes, passes_append, passes_all, is_plain, digit_is, digit_plain}
+use Rattle.cgs_canonical.proofs.LexemeLemmas.{Passes, passes_append, passes_all, is_plain, digit_is, digit_plain}
 
 -- decimal digits, however many
 

@@ -19,13 +19,14 @@ use Rattle.cgs_locate.specs.Located.{monic_at, basis_at, located}
 use Rattle.cgs_locate.proofs.LocateLemmas.{found_is_first}
 use Rattle.cgs_problem.specs.declared.problem.Problem.{Problem}
 use Rattle.cgs_problem.specs.Problems.{IsProblem}
-use Rattle.cgs_print.specs.Printing.{head_line, point_line}
+use Rattle.cgs_canonical.specs.Printing.{point_line}
+use Rattle.cgs_print.specs.Printing.{head_line}
 use Rattle.cgs_print.specs.Locating.{head_if_any, special_lines, place_text, point_text, points_line, located_text}
 use Rattle.cgs_print.specs.Telling.{IsPrintable, ArePrintable, Place, place_in, place_found, place_of, PlacesAreTold}
-use Rattle.cgs_print.proofs.LexemeLemmas.{Passes, passes_append, is_plain}
-use Rattle.cgs_print.proofs.LineLemmas.{passing}
-use Rattle.cgs_print.proofs.MonomialLemmas.{AreNew}
-use Rattle.cgs_print.proofs.ValidLemmas.{spelled_problem}
+use Rattle.cgs_canonical.proofs.LexemeLemmas.{Passes, passes_append, is_plain}
+use Rattle.cgs_canonical.proofs.LineLemmas.{passing}
+use Rattle.cgs_canonical.proofs.MonomialLemmas.{AreNew}
+use Rattle.cgs_canonical.proofs.ValidLemmas.{spelled_problem}
 use Rattle.cgs_print.proofs.ToldPathLemmas.{decimal_plain}
 use Rattle.cgs_print.proofs.ToldLineLemmas.{IsNamed, Told, fresh, headed, place_told, line_told, text_told, line_reads, basis_tells}
 use Rattle.cgs_print.proofs.ToldListLemmas.{kind_told, head_tells, last_tells, spelled_named}

@@ -1,6 +1,5 @@
 pub mod Printing
 pub mod History
-pub mod RoundTrip
 pub mod Locating
 pub mod Discovery
 pub mod Summary

@@ -7,7 +7,8 @@ use Rattle.cgs_entry.specs.declared.entry.Entry.{Entry}
 use Rattle.cgs_locate.specs.declared.search.Located.{Located}
 use Rattle.cgs_locate.specs.Located.{located}
 use Rattle.cgs_problem.specs.declared.problem.Problem.{Problem}
-use Rattle.cgs_print.specs.Printing.{polynomial_lines, head_line, point_line}
+use Rattle.cgs_canonical.specs.Printing.{polynomial_lines, point_line}
+use Rattle.cgs_print.specs.Printing.{head_line}
 
 -- the first line of an entry, if there is one
 abbrev pub head_if_any : Option Entry → List ℕ

@@ -3,10 +3,10 @@
 ghost use Rattle.std.specs.Prelude.{◌≡◌};
 ghost use Rattle.cgs_poly.specs.Polynomial.{ArePolys};
 ghost use Rattle.cgs_problem.specs.Problems.{IsProblem};
-ghost use Rattle.cgs_print.specs.Printing.{basis_text, members_line, refusal_text, cause_word, Prints};
+ghost use Rattle.cgs_canonical.specs.Printing.{Prints};
+ghost use Rattle.cgs_print.specs.Printing.{basis_text, members_line, refusal_text, cause_word};
 
-use crate::line::polynomial_lines;
-use crate::push::push_all;
+use cgs_canonical::{polynomial_lines, push_all};
 use cgs_entry::Cause;
 use cgs_poly::PolyList;
 use cgs_problem::{Problem, Text};
@@ -15,7 +15,7 @@ use std::alloc::AllocError;
 
 /// Appends the lines of a basis in the ring of the problem, and the number of its members. For want of memory a front of
 /// the text is appended.
-#[tactic(auto, using(crate::proofs::PrintLemmas::parts))]
+#[tactic(auto, using(cgs_canonical::proofs::PrintLemmas::parts))]
 pub fn basis_text(problem: &Problem, basis: &PolyList, out: &mut Text) -> Result<(), AllocError>
     requires problem { IsProblem problem.now }
     requires basis { ArePolys problem.now.ring basis.now }

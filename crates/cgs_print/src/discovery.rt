@@ -3,7 +3,7 @@
 ghost use Rattle.std.specs.List.{AllByRecursion};
 ghost use Rattle.cgs_entry.specs.Entries.{IsEntry};
 ghost use Rattle.cgs_problem.specs.Problems.{IsProblem};
-ghost use Rattle.cgs_print.specs.Printing.{Prints};
+ghost use Rattle.cgs_canonical.specs.Printing.{Prints};
 ghost use Rattle.cgs_print.specs.Discovery.{headed_text, discovered_text};
 
 use crate::list::list_text;
@@ -31,7 +31,7 @@ pub fn discovered_text(
 }
 
 /// A list under a line of its own.
-#[tactic(auto, using(crate::proofs::PrintLemmas::parts))]
+#[tactic(auto, using(cgs_canonical::proofs::PrintLemmas::parts))]
 fn headed_text(
     head: &[u8],
     problem: &Problem,

@@ -1,8 +1,9 @@
 //! The line of a fault.
 
-ghost use Rattle.cgs_print.specs.Printing.{fault_text, Prints};
+ghost use Rattle.cgs_canonical.specs.Printing.{Prints};
+ghost use Rattle.cgs_print.specs.Printing.{fault_text};
 
-use crate::push::push_all;
+use cgs_canonical::push_all;
 use cgs_problem::{Text, TextFault};
 use itoa::Buffer;
 use std::alloc::AllocError;

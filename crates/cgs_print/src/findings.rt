@@ -1,8 +1,9 @@
 //! The printed lines of what is told of a basis.
 
-ghost use Rattle.cgs_print.specs.Printing.{answer_line, standard_line, findings_text, Prints};
+ghost use Rattle.cgs_canonical.specs.Printing.{Prints};
+ghost use Rattle.cgs_print.specs.Printing.{answer_line, standard_line, findings_text};
 
-use crate::push::push_all;
+use cgs_canonical::push_all;
 use cgs_problem::Text;
 use cgs_report::{Findings, Standard};
 use itoa::Buffer;

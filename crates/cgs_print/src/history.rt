@@ -2,12 +2,12 @@
 
 ghost use Rattle.std.specs.List.{flat_map};
 ghost use Rattle.cgs_board.specs.History.{HasQuit};
-ghost use Rattle.cgs_print.specs.Printing.{Prints};
+ghost use Rattle.cgs_canonical.specs.Printing.{Prints};
 ghost use Rattle.cgs_print.specs.History.{worker_text, event_head, node_numbers, claim_line, give_line, event_line, history_line, history_text};
 
 use crate::list::path_text;
-use crate::push::push_all;
 use cgs_board::{Event, EventList};
+use cgs_canonical::push_all;
 use cgs_path::Path;
 use cgs_problem::Text;
 use itoa::Buffer;

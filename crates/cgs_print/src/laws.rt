@@ -1,18 +1,6 @@
-//! What holds of printing and reading together, for the proofs of the crates above. The functions do nothing.
+//! What the printed texts tell, for the proofs of the crates above. The functions do nothing.
 
-ghost use Rattle.cgs_print.specs.RoundTrip.{ReadsBack, SpellsValid};
 ghost use Rattle.cgs_print.specs.Telling.{ListsAreTold, BasesAreTold, PlacesAreTold};
-
-/// The text printed for a problem spells that problem again, for each problem that some text spells: so printing is
-/// a canonical form of problem files.
-pub fn printed_problems_read_back()
-    ensures { ReadsBack }
-{}
-
-/// A text spells valid problems alone.
-pub fn spelled_problems_are_valid()
-    ensures { SpellsValid }
-{}
 
 /// Two lists of entries of a problem that have one text are equal. So a printed list tells the path of each entry, its
 /// conditions, its basis and whether the conditions were tested to the end, or why there is no basis.

@@ -6,12 +6,12 @@ ghost use Rattle.cgs_poly.specs.Polynomial.{IsRing, places, ArePolys};
 ghost use Rattle.cgs_poly.specs.Parameters.{IsCondition};
 ghost use Rattle.cgs_entry.specs.Entries.{IsEntry, IsFound, is_refused};
 ghost use Rattle.cgs_problem.specs.Problems.{IsProblem};
-ghost use Rattle.cgs_print.specs.Printing.{path_text, head_line, conditions_text, found_text, solved_text, untested_line, entry_text, count_line, list_text, Prints};
+ghost use Rattle.cgs_canonical.specs.Printing.{Prints};
+ghost use Rattle.cgs_print.specs.Printing.{path_text, head_line, conditions_text, found_text, solved_text, untested_line, entry_text, count_line, list_text};
 
 use crate::basis::cause_word;
 use crate::findings::findings_text;
-use crate::line::polynomial_lines;
-use crate::push::push_all;
+use cgs_canonical::{polynomial_lines, push_all};
 use cgs_entry::{Conditions, Entry, EntryKind, EntryList};
 use cgs_path::Path;
 use cgs_poly::{PolyList, Ring};
@@ -122,7 +122,7 @@ fn number_text(separator: &[u8], number: usize, out: &mut Text) -> Result<(), Al
 }
 
 /// The lines of conditions.
-#[tactic(auto, using(crate::proofs::ConditionLemmas::conditions_polys, crate::proofs::PrintLemmas::parts))]
+#[tactic(auto, using(cgs_canonical::proofs::ConditionLemmas::conditions_polys, cgs_canonical::proofs::PrintLemmas::parts))]
 fn conditions_text(
     ring: &Ring,
     names: &[Text],
@@ -156,7 +156,7 @@ fn found_text(ring: &Ring, names: &[Text], entry: &Entry, out: &mut Text) -> Res
 }
 
 /// The lines of a basis under conditions that were tested to the end or not.
-#[tactic(auto, using(crate::proofs::PrintLemmas::parts))]
+#[tactic(auto, using(cgs_canonical::proofs::PrintLemmas::parts))]
 fn solved_text(
     ring: &Ring,
     names: &[Text],

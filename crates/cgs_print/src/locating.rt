@@ -7,12 +7,11 @@ ghost use Rattle.cgs_poly.specs.Parameters.{variables_ring};
 ghost use Rattle.cgs_point.specs.Points.{IsPoint};
 ghost use Rattle.cgs_entry.specs.Entries.{IsEntry};
 ghost use Rattle.cgs_problem.specs.Problems.{IsProblem};
-ghost use Rattle.cgs_print.specs.Printing.{Prints};
+ghost use Rattle.cgs_canonical.specs.Printing.{Prints};
 ghost use Rattle.cgs_print.specs.Locating.{special_lines, place_text, point_text, points_line, located_text};
 
-use crate::line::{point_line, polynomial_lines};
 use crate::list::head_line;
-use crate::push::push_all;
+use cgs_canonical::{point_line, polynomial_lines, push_all};
 use cgs_entry::EntryList;
 use cgs_locate::{Located, locate};
 use cgs_point::Point;

@@ -4,11 +4,11 @@ ghost use Rattle.std.specs.Prelude.{◌≡◌};
 ghost use Rattle.std.specs.List.{AllByRecursion};
 ghost use Rattle.cgs_entry.specs.Entries.{IsEntry};
 ghost use Rattle.cgs_problem.specs.Problems.{IsProblem};
-ghost use Rattle.cgs_print.specs.Printing.{Prints};
+ghost use Rattle.cgs_canonical.specs.Printing.{Prints};
 ghost use Rattle.cgs_print.specs.Summary.{byte_sum, summary_lines, summary_text};
 
 use crate::list::{count_refused, list_text};
-use crate::push::push_all;
+use cgs_canonical::push_all;
 use cgs_entry::{Entry, EntryList};
 use cgs_problem::{Problem, Text};
 use itoa::Buffer;

@@ -27,7 +27,7 @@ use Rattle.cgs_problem.specs.Problems.{IsProblem, IsThesis}
 use Rattle.cgs_problem.specs.Reading.{problem_spelled}
 use Rattle.cgs_print.specs.Printing.{basis_text}
 use Rattle.cgs_print.specs.Locating.{located_text}
-use Rattle.cgs_print.proofs.ValidLemmas.{spelled_problem}
+use Rattle.cgs_canonical.proofs.ValidLemmas.{spelled_problem}
 use Rattle.cgs_list.proofs.ListLemmas.{all_append, all_weaker}
 use Rattle.cgs_split.proofs.ShowingLemmas.{entries_show_one}
 use Rattle.cgs_split.specs.declared.kind.Limits.{Limits}

@@ -6,8 +6,8 @@ use Rattle.std.proofs.lemmas.Slice.Eq.{bytes_eq-Decides}
 use Rattle.cgs_discover.specs.Refutation.{y_name}
 use Rattle.cgs_problem.specs.declared.problem.Problem.{Problem}
 use Rattle.cgs_problem.specs.Reading.{problem_spelled}
-use Rattle.cgs_print.proofs.LexemeLemmas.{IsName}
-use Rattle.cgs_print.proofs.ValidLemmas.{spelled_names, spelled_few_variables}
+use Rattle.cgs_canonical.proofs.LexemeLemmas.{IsName}
+use Rattle.cgs_canonical.proofs.ValidLemmas.{spelled_names, spelled_few_variables}
 use Rattle.cgs_program.specs.Run.{IsRefutable}
 
 -- a name begins with a letter

@@ -18,7 +18,8 @@ use Rattle.cgs_problem.specs.declared.problem.Problem.{Problem}
 use Rattle.cgs_problem.specs.declared.fault.TextFault.{TextFault}
 use Rattle.cgs_problem.specs.Problems.{IsProblem}
 use Rattle.cgs_problem.specs.Reading.{problem_spelled}
-use Rattle.cgs_print.specs.Printing.{problem_text, basis_text, refusal_text, list_text, fault_text}
+use Rattle.cgs_canonical.specs.Printing.{problem_text}
+use Rattle.cgs_print.specs.Printing.{basis_text, refusal_text, list_text, fault_text}
 use Rattle.cgs_print.specs.History.{history_text}
 use Rattle.cgs_print.specs.Locating.{located_text}
 use Rattle.cgs_print.specs.Discovery.{discovered_text}

@@ -6,9 +6,9 @@ ghost use Rattle.cgs_poly.specs.Parameters.{IsCondition};
 ghost use Rattle.cgs_point.specs.Points.{IsPoint};
 ghost use Rattle.cgs_problem.specs.Problems.{IsProblem};
 
+use cgs_canonical::poly_text;
 use cgs_point::Point;
 use cgs_poly::{Poly, Ring};
-use cgs_print::poly_text;
 use cgs_problem::{NameList, Problem, Text};
 use cgs_text::{TextRefused, read_problem};
 use std::alloc::Global;

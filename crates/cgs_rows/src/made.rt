@@ -5,8 +5,8 @@ ghost use Rattle.std.specs.List.{list_any};
 ghost use Rattle.cgs_problem.specs.Problems.{IsProblem};
 
 use crate::given::{LINE, TWO_PARAMETERS, is_text, problem_of};
+use cgs_canonical::problem_text;
 use cgs_discover::{DiscoverFault, refutation, with_thesis};
-use cgs_print::problem_text;
 use cgs_problem::{Problem, Text};
 use std::alloc::{AllocError, Global};
 use std::test::Fail;

@@ -1,6 +1,6 @@
 use Rattle.std.proofs.Common.{codes}
 use Rattle.cgs_print.specs.Discovery.{headed_text}
-use Rattle.cgs_print.proofs.PrintLemmas.{front_first, last_part, at_exit}
+use Rattle.cgs_canonical.proofs.PrintLemmas.{front_first, last_part, at_exit}
 use Rattle.cgs_print.proofs.discovery.discovered_text.Goals as goal
 
 pub returns-in_err-headed_text : goal.returns-in_err-headed_text

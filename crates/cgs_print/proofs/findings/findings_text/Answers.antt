@@ -1,7 +1,7 @@
 use Rattle.std.proofs.Common.{ℕ, List, ◌++◌, codes}
 use Rattle.cgs_report.specs.declared.entry.Findings.{Findings}
 use Rattle.cgs_print.specs.Printing.{answer_line, standard_line}
-use Rattle.cgs_print.proofs.PrintLemmas.{front_first, front_second, both_parts, last_part, at_exit}
+use Rattle.cgs_canonical.proofs.PrintLemmas.{front_first, front_second, both_parts, last_part, at_exit}
 use Rattle.cgs_print.proofs.findings.findings_text.Goals as goal
 
 abbrev solvable : Findings → List ℕ

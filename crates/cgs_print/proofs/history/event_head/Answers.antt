@@ -1,6 +1,6 @@
 use Rattle.cgs_print.specs.Printing.{path_text}
 use Rattle.cgs_print.specs.History.{worker_text}
-use Rattle.cgs_print.proofs.PrintLemmas.{front_first, last_part, at_exit}
+use Rattle.cgs_canonical.proofs.PrintLemmas.{front_first, last_part, at_exit}
 use Rattle.cgs_print.proofs.history.event_head.Goals as goal
 
 pub returns-in_err-worker_text : goal.returns-in_err-worker_text

@@ -1,7 +1,7 @@
 use Rattle.std.proofs.Common.{◌++◌, [], drop}
 use Rattle.std.specs.List.{flat_map}
 use Rattle.cgs_print.specs.History.{event_line}
-use Rattle.cgs_print.proofs.PrintLemmas.{Leaves}
+use Rattle.cgs_canonical.proofs.PrintLemmas.{Leaves}
 use Rattle.cgs_print.proofs.history.event_lines.Given as goal
 
 abbrev pub invariant-loop-event : goal.invariant-loop-event

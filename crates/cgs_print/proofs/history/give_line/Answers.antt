@@ -1,6 +1,6 @@
 use Rattle.std.proofs.Common.{codes}
 use Rattle.cgs_print.specs.History.{event_head, node_numbers}
-use Rattle.cgs_print.proofs.PrintLemmas.{front_first, last_part, at_exit}
+use Rattle.cgs_canonical.proofs.PrintLemmas.{front_first, last_part, at_exit}
 use Rattle.cgs_print.proofs.history.give_line.Goals as goal
 
 pub returns-in_err-event_head : goal.returns-in_err-event_head

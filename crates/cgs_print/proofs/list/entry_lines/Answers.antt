@@ -1,7 +1,8 @@
 use Rattle.std.proofs.Common.{◌≡◌, ◌++◌, List, ℕ, [], get_or, ap, ◌∙◌, sym, subst}
 use Rattle.std.proofs.lemmas.List.{append-nil}
-use Rattle.cgs_print.specs.Printing.{entry_text, AppendsFront}
-use Rattle.cgs_print.proofs.PrintLemmas.{leaves_all, leaves_equal, leaves_item, leaves_no_item, leaves_none, front_of_item, at_exit}
+use Rattle.cgs_canonical.specs.Printing.{AppendsFront}
+use Rattle.cgs_print.specs.Printing.{entry_text}
+use Rattle.cgs_canonical.proofs.PrintLemmas.{leaves_all, leaves_equal, leaves_item, leaves_no_item, leaves_none, front_of_item, at_exit}
 use Rattle.cgs_print.proofs.list.entry_lines.Goals as goal
 
 pub loop-entry-init : goal.loop-entry-init

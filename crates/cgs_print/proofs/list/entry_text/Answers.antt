@@ -1,6 +1,6 @@
 use Rattle.std.proofs.Common.{◌++◌}
 use Rattle.cgs_print.specs.Printing.{head_line, conditions_text, found_text}
-use Rattle.cgs_print.proofs.PrintLemmas.{front_first, front_second, both_parts, last_part, at_exit}
+use Rattle.cgs_canonical.proofs.PrintLemmas.{front_first, front_second, both_parts, last_part, at_exit}
 use Rattle.cgs_print.proofs.list.entry_text.Goals as goal
 
 pub returns-in_err-head_line : goal.returns-in_err-head_line

@@ -1,6 +1,6 @@
 use Rattle.std.proofs.Common.{ℕ, List, [], ◌++◌, codes, decimal, sym}
 use Rattle.std.proofs.lemmas.List.{append-nil}
-use Rattle.cgs_print.proofs.PrintLemmas.{leaves_all, leaves_equal, leaves_none, leaves_item, leaves_no_item, front_of_item, at_exit}
+use Rattle.cgs_canonical.proofs.PrintLemmas.{leaves_all, leaves_equal, leaves_none, leaves_item, leaves_no_item, front_of_item, at_exit}
 use Rattle.cgs_print.proofs.list.following_numbers.Goals as goal
 
 abbrev dotted : ℕ → List ℕ

@@ -1,6 +1,6 @@
 use Rattle.std.proofs.Common.{◌++◌, [], drop, codes, decimal}
 use Rattle.std.specs.List.{flat_map}
-use Rattle.cgs_print.proofs.PrintLemmas.{Leaves}
+use Rattle.cgs_canonical.proofs.PrintLemmas.{Leaves}
 use Rattle.cgs_print.proofs.list.following_numbers.Given as goal
 
 abbrev pub invariant-loop-number : goal.invariant-loop-number

@@ -1,7 +1,8 @@
 use Rattle.std.proofs.Common.{◌≡◌, subst}
 use Rattle.cgs_report.specs.Report.{findings_of}
-use Rattle.cgs_print.specs.Printing.{solved_text, findings_text, Prints}
-use Rattle.cgs_print.proofs.PrintLemmas.{front_first, last_part, at_exit}
+use Rattle.cgs_canonical.specs.Printing.{Prints}
+use Rattle.cgs_print.specs.Printing.{solved_text, findings_text}
+use Rattle.cgs_canonical.proofs.PrintLemmas.{front_first, last_part, at_exit}
 use Rattle.cgs_print.proofs.list.found_text.Goals as goal
 
 pub returns-in_err-solved_text-in-Solved : goal.returns-in_err-solved_text-in-Solved

@@ -1,6 +1,6 @@
 use Rattle.std.specs.List.{flat_map}
 use Rattle.cgs_print.specs.Printing.{entry_text, count_line}
-use Rattle.cgs_print.proofs.PrintLemmas.{front_first, last_part, at_exit}
+use Rattle.cgs_canonical.proofs.PrintLemmas.{front_first, last_part, at_exit}
 use Rattle.cgs_print.proofs.list.list_text.Goals as goal
 
 pub returns-in_err-entry_lines : goal.returns-in_err-entry_lines

@@ -1,7 +1,7 @@
 use Rattle.std.proofs.Common.{◌++◌, ℕ, List, Bor}
 use Rattle.std.specs.List.{flat_map}
 use Rattle.cgs_print.specs.Printing.{path_text}
-use Rattle.cgs_print.proofs.PrintLemmas.{front_first, front_second, both_parts, last_part, at_exit}
+use Rattle.cgs_canonical.proofs.PrintLemmas.{front_first, front_second, both_parts, last_part, at_exit}
 use Rattle.cgs_print.proofs.list.path_line.Goals as goal
 
 abbrev joined : List (Bor (List ℕ)) → List ℕ

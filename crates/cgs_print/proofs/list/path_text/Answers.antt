@@ -3,7 +3,7 @@ use Rattle.std.specs.List.{flat_map}
 use Rattle.std.proofs.lemmas.Bool.Decides.{nat_tests}
 use Rattle.std.proofs.lemmas.List.{take_rest}
 use Rattle.cgs_print.specs.Printing.{path_text}
-use Rattle.cgs_print.proofs.PrintLemmas.{front_first, last_part, at_exit}
+use Rattle.cgs_canonical.proofs.PrintLemmas.{front_first, last_part, at_exit}
 use Rattle.cgs_print.proofs.list.path_text.Goals as goal
 
 abbrev first_text : List ℕ → List ℕ

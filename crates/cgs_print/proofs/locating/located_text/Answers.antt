@@ -1,7 +1,7 @@
 use Rattle.std.proofs.Common.{◌≡◌, ◌++◌, List, ℕ, length, get_or, ap, ◌∙◌, subst}
-use Rattle.cgs_print.specs.Printing.{AppendsFront}
+use Rattle.cgs_canonical.specs.Printing.{AppendsFront}
 use Rattle.cgs_print.specs.Locating.{point_text, points_line}
-use Rattle.cgs_print.proofs.PrintLemmas.{leaves_item, leaves_no_item, front_of_item, at_exit, ends}
+use Rattle.cgs_canonical.proofs.PrintLemmas.{leaves_item, leaves_no_item, front_of_item, at_exit, ends}
 use Rattle.cgs_print.proofs.locating.located_text.Goals as goal
 
 pub returns-in_err-point_text : goal.returns-in_err-point_text

@@ -3,9 +3,10 @@ use Rattle.std.specs.Prelude.{slice_get}
 use Rattle.cgs_entry.specs.declared.entry.Entry.{Entry}
 use Rattle.cgs_locate.specs.declared.search.Located.{Located}
 use Rattle.cgs_problem.specs.declared.problem.Problem.{Problem}
-use Rattle.cgs_print.specs.Printing.{head_line, AppendsFront, Prints}
+use Rattle.cgs_canonical.specs.Printing.{AppendsFront, Prints}
+use Rattle.cgs_print.specs.Printing.{head_line}
 use Rattle.cgs_print.specs.Locating.{special_lines, place_text}
-use Rattle.cgs_print.proofs.PrintLemmas.{front_first, last_part, at_exit}
+use Rattle.cgs_canonical.proofs.PrintLemmas.{front_first, last_part, at_exit}
 use Rattle.cgs_print.proofs.locating.place_text.Goals as goal
 
 -- the lines of the entry that was found

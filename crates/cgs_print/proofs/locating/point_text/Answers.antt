@@ -5,9 +5,9 @@ use Rattle.cgs_entry.specs.declared.entry.Entry.{Entry}
 use Rattle.cgs_locate.specs.declared.search.Located.{Located}
 use Rattle.cgs_locate.specs.Located.{located}
 use Rattle.cgs_locate.proofs.LocateLemmas.{found_is_first}
-use Rattle.cgs_print.specs.Printing.{point_line, Prints}
+use Rattle.cgs_canonical.specs.Printing.{point_line, Prints}
 use Rattle.cgs_print.specs.Locating.{place_text}
-use Rattle.cgs_print.proofs.PrintLemmas.{front_first, last_part, at_exit}
+use Rattle.cgs_canonical.proofs.PrintLemmas.{front_first, last_part, at_exit}
 use Rattle.cgs_print.proofs.locating.point_text.Goals as goal
 
 pub returns-in_err-point_line : goal.returns-in_err-point_line

@@ -1,5 +1,0 @@
-use Rattle.cgs_print.proofs.ValidLemmas.{spelled_problem}
-use Rattle.cgs_print.proofs.laws.spelled_problems_are_valid.Goals as goal
-
-pub returns : goal.returns
-returns c = spelled_problem

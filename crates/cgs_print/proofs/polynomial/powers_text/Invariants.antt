@@ -1,8 +1,0 @@
-use Rattle.cgs_print.specs.Printing.{powers_text, following}
-use Rattle.cgs_print.proofs.PrintLemmas.{Leaves}
-use Rattle.cgs_print.proofs.polynomial.powers_text.Given as goal
-
-abbrev pub invariant-loop-name : goal.invariant-loop-name
-invariant-loop-name l =
-    Leaves l.fn.out l.out (following l.fn.bare (powers_text l.names l.exponents))
-    (following l.bare (powers_text l.name-iterator.a.rest.now l.name-iterator.b.rest.now))

@@ -80,7 +80,10 @@ turned_terms_refused h = let falls : Greater ≡ Less = h.sound.0.serves.canonic
 
 -- the exponent of x is 1
 pub variable_in_condition_refused : VariableInConditionIsRefused
-variable_in_condition_refused h = let free : ◌≡◌ {A = List ℕ} (1 ∷ []) (0 ∷ []) = h.sound.0.nonzero.0.free.0 in cc
+variable_in_condition_refused = (
+  λ h. let free : ◌≡◌ {A = List ℕ} (1 ∷ []) (0 ∷ []) = h.sound.0.nonzero.0.free.0 in cc,
+  λ h. let free : ◌≡◌ {A = List ℕ} (1 ∷ []) (0 ∷ []) = h.sound.1.0.zero.0.free.0 in cc,
+)
 
 -- what holds of 0 to 6 holds of each number below 7
 at_seven : (P : ℕ → Type 0) → P 0 → P 1 → P 2 → P 3 → P 4 → P 5 → P 6 → (n : ℕ) → n < 7 → P n

@@ -81,10 +81,11 @@ line_turned = term 6 (0 ∷ 0 ∷ []) ∷ term 1 (1 ∷ 1 ∷ []) ∷ []
 abbrev pub TurnedTermsAreRefused : Type 0
 TurnedTermsAreRefused = ¬ (IsComprehensive seven [] [] (line ∷ []) (solved 0 [] [] (line_turned ∷ []) ∷ []))
 
--- a*x, which has a variable, in the place of a among the conditions
+-- a*x, which has a variable, in the place of a among the conditions that stand, and among those that vanish
 abbrev pub a_times_x : List Term
 a_times_x = term 1 (1 ∷ 1 ∷ []) ∷ []
 
 abbrev pub VariableInConditionIsRefused : Type 0
 VariableInConditionIsRefused =
     ¬ (IsComprehensive seven [] [] (line ∷ []) (solved 0 [] (a_times_x ∷ []) (line ∷ []) ∷ solved 1 (only_a ∷ []) [] (one ∷ []) ∷ []))
+    × ¬ (IsComprehensive seven [] [] (line ∷ []) (solved 0 [] (only_a ∷ []) (line ∷ []) ∷ solved 1 (a_times_x ∷ []) [] (one ∷ []) ∷ []))

@@ -8,14 +8,15 @@ ghost use Rattle.std.specs.Prelude.{◌≡◌, drop, map, string_bytes, All, IfO
 ghost use Rattle.std.specs.IoError.{error_kind};
 ghost use Rattle.cgs.specs.Ending.{code_without_words, IsFlushed};
 
+mod progress;
 #[cfg(test)]
 mod tests;
 
+use crate::progress::Progress;
 use cgs_io::{Sink, StdSink, StdSource, Word, WordList};
 use cgs_program::{Status, run};
-use cgs_worker::OpenGate;
 use std::alloc::{AllocError, Global};
-use std::io::Write;
+use std::io::{IsTerminal, Write};
 use std::process::ExitCode;
 use std::rt::Env;
 use std::{env, io};
@@ -28,7 +29,9 @@ fn main(rt: HostRuntime) -> ExitCode {
     };
     let mut source = StdSource::new(rt.stdin());
     let mut sink = StdSink::new(rt.stdout());
-    let status = run(&rt, alloc, &words, &mut source, &mut sink, &OpenGate);
+    let progress = Progress::new(&rt, rt.stderr().is_terminal());
+    let status = run(&rt, alloc, &words, &mut source, &mut sink, &progress);
+    progress.clear();
     ExitCode::from(flushed(status, &mut sink).code())
 }
 

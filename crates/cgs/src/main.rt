@@ -12,7 +12,7 @@ mod progress;
 #[cfg(test)]
 mod tests;
 
-use crate::progress::Progress;
+use crate::progress::{Output, Progress};
 use cgs_io::{Sink, StdSink, StdSource, Word, WordList};
 use cgs_program::{Status, run};
 use std::alloc::{AllocError, Global};
@@ -28,8 +28,11 @@ fn main(rt: HostRuntime) -> ExitCode {
         Err(e) => return ExitCode::from(code_without_words(&e)),
     };
     let mut source = StdSource::new(rt.stdin());
-    let mut sink = StdSink::new(rt.stdout());
     let progress = Progress::new(&rt, rt.stderr().is_terminal());
+    let mut sink = StdSink::new(Output {
+        progress: &progress,
+        stream: rt.stdout(),
+    });
     let status = run(&rt, alloc, &words, &mut source, &mut sink, &progress);
     progress.clear();
     ExitCode::from(flushed(status, &mut sink).code())

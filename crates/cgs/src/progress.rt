@@ -2,7 +2,8 @@
 
 use cgs_worker::Gate;
 use std::fmt::{self, Display, Formatter};
-use std::sync::atomic::{AtomicU64, Ordering};
+use std::io::{self, Write};
+use std::sync::atomic::{AtomicBool, AtomicU64, Ordering};
 use std::time::{Clock, Instant};
 
 // The milliseconds from one line to the next.
@@ -21,6 +22,8 @@ pub(crate) struct Progress<'a, R> {
     branches: AtomicU64,
     // the milliseconds from the start to the next line
     due: AtomicU64,
+    // whether a line stands there
+    stands: AtomicBool,
 }
 
 impl<'a, R: Clock + Eprint> Progress<'a, R> {
@@ -36,12 +39,13 @@ impl<'a, R: Clock + Eprint> Progress<'a, R> {
             start,
             branches: AtomicU64::new(0),
             due: AtomicU64::new(INTERVAL),
+            stands: AtomicBool::new(false),
         }
     }
 
-    /// Takes the line away, if there was one.
+    /// Takes the line away, if there is one.
     pub(crate) fn clear(&self) {
-        if self.start.is_some() && self.due.load(Ordering::Relaxed) != INTERVAL {
+        if self.stands.swap(false, Ordering::Relaxed) {
             let _ = eprint!(self.rt; "\r\x1b[K");
         }
     }
@@ -74,8 +78,27 @@ impl<R: Clock + Eprint> Gate for Progress<'_, R> {
                 path,
                 seconds: elapsed.as_secs(),
             };
+            self.stands.store(true, Ordering::Relaxed);
             let _ = eprint!(self.rt; "\r{line}\x1b[K");
         }
+    }
+}
+
+/// A stream before whose bytes the line is taken away, so that a terminal which has both shows them on lines of their own.
+#[derive(Drop)]
+pub(crate) struct Output<'a, R, W> {
+    pub(crate) progress: &'a Progress<'a, R>,
+    pub(crate) stream: W,
+}
+
+impl<R: Clock + Eprint, W: Write> Write for Output<'_, R, W> {
+    fn write(&mut self, buf: &[u8]) -> io::Result<usize> {
+        self.progress.clear();
+        self.stream.write(buf)
+    }
+
+    fn flush(&mut self) -> io::Result<()> {
+        self.stream.flush()
     }
 }
 

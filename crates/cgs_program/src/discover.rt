@@ -8,6 +8,7 @@ ghost use Rattle.cgs_problem.specs.Problems.{IsProblem};
 ghost use Rattle.cgs_program.specs.Due.{limits_of, discovered_answer, pair_answer, IsThe};
 ghost use Rattle.cgs_program.specs.Run.{IsRefutable, MaySolve, Solves, Makes};
 
+use crate::faults::NO_THESIS;
 use crate::reply::{Halt, Reply, fault_reply};
 use crate::solve::{found_by, has_refused, status_of};
 use cgs_discover::{DiscoverFault, refutation, with_thesis};
@@ -35,7 +36,7 @@ pub(crate) fn discovered_reply<F: Fn(Plan, &Problem) -> Result<Solution, AllocEr
 {
     match both_problems(alloc, problem) {
         Ok((refutation, extension)) => pair_reply(alloc, plan, &refutation, &extension, solve),
-        Err(DiscoverFault::NoThesis) => fault_reply(alloc, b"fault line 0 no-thesis\n"),
+        Err(DiscoverFault::NoThesis) => fault_reply(alloc, NO_THESIS),
         Err(DiscoverFault::OutOfMemory) => Err(Halt::Memory),
     }
 }

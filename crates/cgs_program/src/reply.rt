@@ -12,6 +12,7 @@ ghost use Rattle.cgs_program.specs.Run.{IsRefutable, MaySolve, Solves, RepliesTo
 
 use crate::basis::basis_reply;
 use crate::discover::discovered_reply;
+use crate::faults::LONG;
 use crate::solve::{list_reply, located_reply};
 use crate::status::Status;
 use crate::stress::summary_reply;
@@ -100,7 +101,7 @@ fn read_reply<S: Source, F: Fn(Plan, &Problem) -> Result<Solution, AllocError>>(
 {
     match read_all(alloc, source, LIMIT) {
         Ok(Reading::Whole(bytes)) => bytes_reply(alloc, plan, &bytes, solve),
-        Ok(Reading::TooLong) => fault_reply(alloc, b"fault line 0 long\n"),
+        Ok(Reading::TooLong) => fault_reply(alloc, LONG),
         Err(ReadFault::Fault) => Err(Halt::Source),
         Err(ReadFault::OutOfMemory) => Err(Halt::Memory),
     }

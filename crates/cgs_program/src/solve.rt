@@ -10,6 +10,7 @@ ghost use Rattle.cgs_print.specs.History.{history_text};
 ghost use Rattle.cgs_program.specs.Due.{entries_within, limits_of, list_answer, located_answer, status_of, IsThe, IsWhole};
 ghost use Rattle.cgs_program.specs.Run.{IsFoundBy, MaySolve, Solves, Makes};
 
+use crate::faults::NO_POINT;
 use crate::reply::{Halt, Reply, fault_reply};
 use crate::status::Status;
 use cgs_board::EventList;
@@ -141,7 +142,7 @@ pub(crate) fn located_reply<F: Fn(Plan, &Problem) -> Result<Solution, AllocError
     ensures { Makes result (IsThe (located_answer problem.now (entries_within (limits_of plan) problem.now))) }
 {
     if problem.points.len() == 0 {
-        return fault_reply(alloc, b"fault line 0 no-point\n");
+        return fault_reply(alloc, NO_POINT);
     }
     let solution = found_by(plan, problem, solve)?;
     let mut text = ItemList::new(alloc);

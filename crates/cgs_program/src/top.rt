@@ -1,18 +1,18 @@
 //! The top call, by one worker or by many.
 
-ghost use Rattle.std.specs.Prelude.{◌≡◌, ◌<◌};
+ghost use Rattle.std.specs.Prelude.{◌<◌};
 ghost use Rattle.cgs_problem.specs.Problems.{IsProblem};
-ghost use Rattle.cgs_program.specs.Due.{word_fault_text};
 ghost use Rattle.cgs_program.specs.Run.{IsRun, Completes, MaySolve, Solves, Finishes, Delivers};
 ghost use Rattle.cgs_program.specs.Promises.{KeepsBasis, KeepsSystem, KeepsLocated, KeepsDiscovered, KeepsSummary, KeepsAll};
 
+use crate::faults::fault_line;
 use crate::reply::{Halt, Reply, make_reply};
 use crate::solve::{solved, solved_alone};
 use crate::status::Status;
 use cgs_io::{Failed, Sink, Source, WordList, write_all};
 use cgs_problem::Problem;
 use cgs_system::Solution;
-use cgs_words::{Plan, WordFault, read_words};
+use cgs_words::{Plan, read_words};
 use cgs_worker::Gate;
 use std::alloc::{AllocError, Global};
 use std::sync::Wait;
@@ -125,17 +125,5 @@ fn finish<K: Sink>(sink: &mut K, text: &[u8], end: Status) -> Status
     match write_all(sink, text) {
         Ok(()) => end,
         Err(Failed) => Status::Sink,
-    }
-}
-
-fn fault_line(fault: WordFault) -> &'static [u8]
-    ensures { result.now ≡ word_fault_text fault }
-{
-    match fault {
-        WordFault::NoWord => b"fault words none\n",
-        WordFault::Command => b"fault words command\n",
-        WordFault::Option => b"fault words option\n",
-        WordFault::Repeat => b"fault words repeat\n",
-        WordFault::Value => b"fault words value\n",
     }
 }

@@ -21,8 +21,8 @@ use Rattle.cgs_poly.proofs.ProductOrderLemmas.{compared_shift}
 use Rattle.cgs_algebra.specs.Groebner.{AreMonic, DividesNone, leading_monomial_at}
 use Rattle.cgs_algebra.proofs.RepresentationLemmas.{lead_at_length}
 use Rattle.cgs_divide.specs.declared.division.Division.{Division}
-use Rattle.cgs_divide.specs.Ending.{Ending, ended, out_of_budget, out_of_degree}
-use Rattle.cgs_divide.specs.DivisionRun.{done, remainder_of, first_divisor, is_too_high, less_multiple, charged, with_remainder}
+use Rattle.cgs_divide.specs.Ending.{Ending, ended, out_of_budget, out_of_degree, charged}
+use Rattle.cgs_divide.specs.DivisionRun.{done, remainder_of, first_divisor, is_too_high, less_multiple, with_remainder}
 use Rattle.cgs_divide.specs.DivisionRun.{with_quotient, added_at, divided_in, divided}
 use Rattle.cgs_divide.specs.Division.{products, TermsBelow, HasDivided, IsRemainder}
 use Rattle.cgs_divide.proofs.EndingLemmas.{ended_same, has_followed}

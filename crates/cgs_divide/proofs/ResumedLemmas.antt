@@ -9,8 +9,8 @@ use Rattle.cgs_poly.specs.Ring.{Ring}
 use Rattle.cgs_poly.specs.Polynomial.{Term, term}
 use Rattle.cgs_poly.specs.Product.{multiple, leading_monomial}
 use Rattle.cgs_divide.specs.declared.division.Division.{Division}
-use Rattle.cgs_divide.specs.Ending.{Ending, ended, out_of_budget, out_of_degree, followed}
-use Rattle.cgs_divide.specs.DivisionRun.{done, keeping, first_divisor, is_too_high, less_multiple, charged, with_remainder}
+use Rattle.cgs_divide.specs.Ending.{Ending, ended, out_of_budget, out_of_degree, followed, charged}
+use Rattle.cgs_divide.specs.DivisionRun.{done, keeping, first_divisor, is_too_high, less_multiple, with_remainder}
 use Rattle.cgs_divide.specs.DivisionRun.{with_quotient, added_at, divided_in, divided}
 use Rattle.cgs_divide.proofs.QuotientLemmas.{added_length, zeros, zeros_length}
 

@@ -16,8 +16,8 @@ use Rattle.cgs_algebra.specs.Groebner.{AreMonic, leading_monomial_at}
 use Rattle.cgs_divide.specs.declared.stop.Stop.TheVariants as stop
 use Rattle.cgs_divide.specs.Stop.{stop_of}
 use Rattle.cgs_divide.specs.declared.division.Division.{Division}
-use Rattle.cgs_divide.specs.Ending.{Ending, out_of_budget, out_of_degree}
-use Rattle.cgs_divide.specs.DivisionRun.{first_divisor, is_too_high, less_multiple, charged, with_remainder, with_quotient}
+use Rattle.cgs_divide.specs.Ending.{Ending, out_of_budget, out_of_degree, charged}
+use Rattle.cgs_divide.specs.DivisionRun.{first_divisor, is_too_high, less_multiple, with_remainder, with_quotient}
 use Rattle.cgs_divide.specs.DivisionRun.{divided}
 use Rattle.cgs_divide.proofs.QuotientLemmas.{not_too_high, too_high}
 use Rattle.cgs_divide.proofs.RunLemmas.{divided_kept, divided_taken}
@@ -54,10 +54,10 @@ get_read xs i x d e = sym (unwrap_or-slice_get xs i d) ∙ ap (λ o. unwrap_or o
 
 -- steps that end the run, and steps that are paid
 
-charged_little : (cost units : ℕ) (run : Ending Division) → units < cost → charged cost units run ≡ out_of_budget units
+pub charged_little : {A : Type 0} (cost units : ℕ) (run : Ending A) → units < cost → charged cost units run ≡ out_of_budget units
 charged_little cost units run h = rw (lt-ltb units cost h) refl
 
-pub charged_enough : (cost units : ℕ) (run : Ending Division) → cost ≤ units → charged cost units run ≡ run
+pub charged_enough : {A : Type 0} (cost units : ℕ) (run : Ending A) → cost ≤ units → charged cost units run ≡ run
 charged_enough cost units run h = rw (le-ltb units cost h) refl
 
 module _ (ring : Ring) (G : List (List Term)) (ok : AreMonic ring G) (Q : List (List Term)) (units : ℕ)

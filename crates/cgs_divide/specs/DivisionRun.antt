@@ -6,7 +6,7 @@ use Rattle.cgs_poly.specs.Ring.{Ring}
 use Rattle.cgs_poly.specs.Polynomial.{Term, term, canonical, greatest_degree}
 use Rattle.cgs_poly.specs.Product.{multiple, leading_monomial}
 use Rattle.cgs_divide.specs.declared.division.Division.{Division}
-use Rattle.cgs_divide.specs.Ending.{Ending, ended, out_of_budget, out_of_degree, followed}
+use Rattle.cgs_divide.specs.Ending.{Ending, ended, out_of_budget, out_of_degree, charged, followed}
 
 -- a division that ends with a remainder, a quotient for each divisor and the units left
 abbrev pub done : List Term → List (List Term) → ℕ → Ending Division
@@ -43,10 +43,6 @@ is_too_high (x ∷ f) = nat_lt greatest_degree (degree x.exponents) || is_too_hi
 -- f - c*t*g
 abbrev pub less_multiple : Ring → List Term → ℕ → List ℕ → List Term → List Term
 less_multiple ring f c t g = canonical ring (f ++ multiple (ring.modulus - c) t g)
-
--- a step that costs more than the units that are left ends the run, and takes none
-abbrev pub charged : ℕ → ℕ → Ending Division → Ending Division
-charged cost units run = cond (nat_lt units cost) (out_of_budget units) run
 
 -- the same with a term at the front of the remainder
 abbrev pub with_remainder : Term → Ending Division → Ending Division

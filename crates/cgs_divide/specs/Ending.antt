@@ -1,5 +1,5 @@
 -- How a run ends that has units of work and a limit on degrees, and how a call ends that makes the run.
-use Rattle.std.specs.Prelude.{ℕ, ◌≡◌, Result, Ok, Err}
+use Rattle.std.specs.Prelude.{ℕ, ◌≡◌, cond, nat_lt, Result, Ok, Err}
 use Rattle.cgs_divide.specs.declared.stop.Stop.{Stop}
 use Rattle.cgs_divide.specs.declared.stop.Stop.TheVariants.{Budget, Degree, OutOfMemory}
 
@@ -8,6 +8,10 @@ pub data Ending (A : Type 0) : Type 0 where
   ended : A → ℕ → Ending A
   out_of_budget : ℕ → Ending A
   out_of_degree : ℕ → Ending A
+
+-- a step that costs more than the units that are left ends the run, and takes none
+abbrev pub charged : {A : Type 0} → ℕ → ℕ → Ending A → Ending A
+charged cost units run = cond (nat_lt units cost) (out_of_budget units) run
 
 -- the next run in the units left, if the first has a result
 abbrev pub followed : {A B : Type 0} → Ending A → (A → ℕ → Ending B) → Ending B

@@ -1,0 +1,4 @@
+pub mod ReductionRun
+pub mod Cases
+pub mod Laws
+pub mod Examples

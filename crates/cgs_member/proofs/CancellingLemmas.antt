@@ -78,7 +78,8 @@ either_factor w k t c b =
     turned : (u n : List ℕ) → product u (product t n) ≡ product (product t u) n
     turned u n = sym (product_assoc u t n) ∙ ap (λ m. product m n) (product_comm u t)
 
-module _ (ring : Ring) (f b : List Term) (r : IsRing ring) (f_ok : IsCanonical ring f) (b_ok : IsCanonical ring b) (f_some : 0 < length f) (b_some : 0 < length b) where
+module _ (ring : Ring) (f b : List Term) (r : IsRing ring) (f_ok : IsCanonical ring f) (b_ok : IsCanonical ring b)
+    (f_some : 0 < length f) (b_some : 0 < length b) where
   abbrev first : List Term
   first = all_products (lc_x ring b) f
 

@@ -1,5 +1,6 @@
 -- At each point where the basis serves, f is in the ideal exactly where all cases vanish.
-use Rattle.std.proofs.Common.{ℕ, zero, suc, ◌≡◌, ◌+◌, ◌-◌, ◌*◌, ◌%◌, ◌<◌, ◌≤◌, ◌↔◌, Bool, true, false, cond, ltb, IsTrue, List, [], ◌∷◌, ◌++◌, length, get_or, take, drop}
+use Rattle.std.proofs.Common.{ℕ, zero, suc, ◌≡◌, ◌+◌, ◌-◌, ◌*◌, ◌%◌, ◌<◌, ◌≤◌, ◌↔◌, Bool, true, false, cond, ltb, IsTrue, List, [], ◌∷◌, ◌++◌}
+use Rattle.std.proofs.Common.{length, get_or, take, drop}
 use Rattle.std.proofs.Common.{refl, sym, ap, ◌∙◌, subst, arith}
 use Rattle.std.proofs.Math.Nat.{zero-mod, add-zero, mul-zero, one-mul, mod-eq_of_lt}
 use Rattle.std.proofs.lemmas.Bool.{ltb-true, ltb-false}
@@ -82,7 +83,8 @@ module _ (ring : Ring) (B P : List (List Term)) (r_ok : IsRing ring) (B_ok : All
       let hr : IsOfRing ring r = canonical_of_ring ring r k.remainder in
       let x : List ℕ = lead_x ring g in
       let un : Each (Undivided ring B) (part_at ring x g) =
-      undivided_part ring B x (part_at ring x g) (all_by_places (λ b. lead_divides ring b x ≡ false) [] B (λ i l. none_divides ring B x none i l)) (part_each ring x g hg) in
+      undivided_part ring B x (part_at ring x g) (all_by_places (λ b. lead_divides ring b x ≡ false) [] B (λ i l. none_divides ring B x none i l))
+      (part_each ring x g hg) in
       let both : Each (Undivided ring B) (r ++ part_at ring x g) = each_append (Undivided ring B) r (part_at ring x g) k.undivided un in
       record {
         rest = others_canonical ring x g k.rest;
@@ -159,9 +161,6 @@ module _ (ring : Ring) (B P : List (List Term)) (r_ok : IsRing ring) (B_ok : All
   -- at a point, as the law says it
 
   module _ (f r : List Term) (f_ok : IsCanonical ring f) (k : IsKept f [] r) (a : List ℕ) (basis : IsBasisAt ring a P B) where
-    own : Ring
-    own = variables_ring ring
-
     abbrev I : List Term → Type 0
     I g = IsMember (variables_ring ring) (specialised_list ring a P) g
 
@@ -179,7 +178,8 @@ module _ (ring : Ring) (B P : List (List Term)) (r_ok : IsRing ring) (B_ok : All
     sum_is w =
         let W : List ℕ → ℕ = at_point ring a w in
         let i = mod_mul ring.modulus d.factor d.factor (total w (specialised ring a f)) (total W f) refl (total_specialised ring a w f pos hf) in
-        let j = mod_add ring.modulus (total W r) (total w (specialised ring a r)) (total w d.rest) (total w d.rest) (sym (total_specialised ring a w r pos hr)) refl in
+        let j = mod_add ring.modulus (total W r) (total w (specialised ring a r)) (total w d.rest) (total w d.rest)
+        (sym (total_specialised ring a w r pos hr)) refl in
         let z : total W [] + total W r + total w d.rest ≡ total W r + total w d.rest = omega arith in
         i ∙ (d.sum w ∙ (ap (λ n. n % ring.modulus) z ∙ j))
 
@@ -203,7 +203,8 @@ module _ (ring : Ring) (B P : List (List Term)) (r_ok : IsRing ring) (B_ok : All
         let p : ℕ = ring.modulus in
         same_member (variables_ring ring) (specialised_list ring a P) pos (record { under = λ w. sum w })
         (sum_member (variables_ring ring) (specialised_list ring a P) pos (scaled d.factor F) (scaled (ring.modulus - 1) d.rest)
-        (scaled_member (variables_ring ring) (specialised_list ring a P) pos d.factor F (scaled d.factor F) (λ w. ap (λ n. n % p) (total_scaled w d.factor F)) h)
+        (scaled_member (variables_ring ring) (specialised_list ring a P) pos d.factor F (scaled d.factor F)
+        (λ w. ap (λ n. n % p) (total_scaled w d.factor F)) h)
         (scaled_member (variables_ring ring) (specialised_list ring a P) pos (ring.modulus - 1) d.rest (scaled (ring.modulus - 1) d.rest)
         (λ w. ap (λ n. n % p) (total_scaled w (ring.modulus - 1) d.rest)) d.member))
       where
@@ -215,7 +216,8 @@ module _ (ring : Ring) (B P : List (List Term)) (r_ok : IsRing ring) (B_ok : All
             let i = total_append w (scaled d.factor (specialised ring a f)) (scaled (ring.modulus - 1) d.rest) in
             let j = total_scaled w d.factor (specialised ring a f) in
             let l = total_scaled w (ring.modulus - 1) d.rest in
-            let e = mod_add ring.modulus (d.factor * total w (specialised ring a f)) (R + M) ((ring.modulus - 1) * M) ((ring.modulus - 1) * M) (sum_is w) refl in
+            let e = mod_add ring.modulus (d.factor * total w (specialised ring a f)) (R + M) ((ring.modulus - 1) * M)
+            ((ring.modulus - 1) * M) (sum_is w) refl in
             let o : (R + (M + (ring.modulus - 1) * M)) % ring.modulus ≡ (R + 0) % ring.modulus =
             mod_add ring.modulus R R (M + (ring.modulus - 1) * M) 0 refl (mod_opposite ring.modulus M pos ∙ sym (zero-mod ring.modulus)) in
             let q : (R + M) + (ring.modulus - 1) * M ≡ R + (M + (ring.modulus - 1) * M) = assoc R M ((ring.modulus - 1) * M) in

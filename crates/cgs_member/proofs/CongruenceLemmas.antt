@@ -121,7 +121,8 @@ module _ (ring : Ring) (a : List ℕ) (pos : 0 < ring.modulus) (field : IsField 
         let i = total_append W r (part_at ring x g) in
         let j = part_total ring W x g in
         let o = ap (total W) (others_rest ring x g) in
-        let k : total W g + total W r + total w d.rest ≡ (total W (others_at ring x g) + total w d.rest) + total W (r ++ part_at ring x g) = omega (arith, i, j, o) in
+        let k : total W g + total W r + total w d.rest ≡ (total W (others_at ring x g) + total w d.rest) + total W (r ++ part_at ring x g) =
+        omega (arith, i, j, o) in
         let l : (total W (others_at ring x g) + total w d.rest) + total W (canonical ring (r ++ part_at ring x g))
         ≡ total W (others_at ring x g) + total W (canonical ring (r ++ part_at ring x g)) + total w d.rest = omega arith in
         d.sum w
@@ -131,7 +132,8 @@ module _ (ring : Ring) (a : List ℕ) (pos : 0 < ring.modulus) (field : IsField 
   }
 
   -- the step by b, whose leading coefficient is not 0 at the point
-  module _ (f g r b : List Term) (g_ok : IsCanonical ring g) (b_ok : IsCanonical ring b) (r_ok : IsOfRing ring r) (g_some : 0 < length g) (b_some : 0 < length b)
+  module _ (f g r b : List Term) (g_ok : IsCanonical ring g) (b_ok : IsCanonical ring b) (r_ok : IsOfRing ring r)
+      (g_some : 0 < length g) (b_some : 0 < length b)
       (stands : ¬ (value_at ring a (lc_x ring b) ≡ 0)) (inside : I (specialised ring a b)) where
     abbrev t : List ℕ
     t = lead_quotient ring g b
@@ -196,7 +198,8 @@ module _ (ring : Ring) (a : List ℕ) (pos : 0 < ring.modulus) (field : IsField 
           ≡ D * total w d.rest + C * total v (specialised ring a b) =
           total_append w (scaled D d.rest) (multiple C (take ring.variables t) (specialised ring a b))
           ∙ cc (total_scaled w D d.rest, total_multiple w C (take ring.variables t) (specialised ring a b)) in
-          let s = cancel_sum ring.modulus D C (d.factor * total (at_point ring a w) f) (total (at_point ring a w) g) (total (at_point ring a w) r) (total w d.rest)
+          let s = cancel_sum ring.modulus D C (d.factor * total (at_point ring a w) f) (total (at_point ring a w) g)
+          (total (at_point ring a w) r) (total w d.rest)
           (total (at_point ring a v) b) (total v (specialised ring a b)) (total (at_point ring a w) (cancelled ring g b))
           (total (at_point ring a w) (canonical ring (all_products (lc_x ring b) r))) pos (d.sum w) (cancelled_sum w) (remainder_sum w)
           (total_specialised ring a v b pos rb) in

@@ -118,8 +118,10 @@ module _ (ring : Ring) (B : List (List Term)) where
   enough_steps (suc n) zero units f r h k = absurd (omega arith)
   enough_steps (suc n) (suc m) units [] r h k = refl
   enough_steps (suc n) (suc m) units (x ∷ f) r h k =
-      followed_same (step ring B units (x ∷ f) r) (λ p left. reduction_in n ring B left p.rest p.remainder) (λ p left. reduction_in m ring B left p.rest p.remainder)
-      (λ p left e. let l = step_paid ring B units (x ∷ f) r p left (omega arith) e in enough_steps n m left p.rest p.remainder (omega (arith, l)) (omega (arith, l)))
+      followed_same (step ring B units (x ∷ f) r) (λ p left. reduction_in n ring B left p.rest p.remainder)
+      (λ p left. reduction_in m ring B left p.rest p.remainder)
+      (λ p left e. let l = step_paid ring B units (x ∷ f) r p left (omega arith) e in
+      enough_steps n m left p.rest p.remainder (omega (arith, l)) (omega (arith, l)))
 
   pub reduction_nothing : (units : ℕ) (r : List Term) → reduction ring B units [] r ≡ ended r units
   unfolding reduction

@@ -1,5 +1,5 @@
 -- The step by a member of the basis: what was paid, and how it ends.
-use Rattle.std.proofs.Common.{Err, ℕ, ◌≡◌, ◌+◌, ◌-◌, ◌*◌, ◌<◌, ◌≤◌, Bool, true, false, ◌||◌, List, [], ◌∷◌, length, refl, sym, ap, ◌∙◌, subst, arith}
+use Rattle.std.proofs.Common.{Err, ℕ, ◌≡◌, ◌+◌, ◌-◌, ◌*◌, ◌<◌, ◌≤◌, Bool, true, false, ◌||◌, List, [], ◌∷◌, ◌++◌, length, refl, sym, ap, ◌∙◌, subst, arith}
 use Rattle.std.proofs.lemmas.Bool.{le-ltb}
 use Rattle.cgs_list.proofs.ListLemmas.{all_parts}
 use Rattle.cgs_exps.specs.Monomial.{degree}
@@ -7,15 +7,15 @@ use Rattle.cgs_exps.proofs.MonomialLemmas.{degree_product}
 use Rattle.cgs_poly.specs.Ring.{Ring}
 use Rattle.cgs_poly.specs.Polynomial.{Term, greatest_degree, IsOfRing, HasLowDegrees, canonical}
 use Rattle.cgs_poly.specs.Product.{multiple, all_products}
-use Rattle.cgs_poly.specs.Parameters.{lc_x}
+use Rattle.cgs_poly.specs.Parameters.{lead_x, lc_x, part_at}
 use Rattle.cgs_poly.specs.declared.fault.PolyFault.{PolyFault}
 use Rattle.cgs_poly.specs.declared.fault.PolyFault.TheVariants as faults
 use Rattle.cgs_divide.specs.DivisionRun.{is_too_high}
-use Rattle.cgs_divide.proofs.StepLemmas.{charged_little, high_unless_low, low_not_high}
+use Rattle.cgs_divide.proofs.StepLemmas.{charged_little, charged_enough, high_unless_low, low_not_high}
 use Rattle.cgs_divide.proofs.QuotientLemmas.{not_too_high}
 use Rattle.cgs_divide.specs.Ending.{Ending, ended, out_of_budget, out_of_degree, EndsAs}
 use Rattle.cgs_divide.specs.Stop.{stop_of}
-use Rattle.cgs_member.specs.ReductionRun.{parts, lead_quotient, cancelled, cancelling_cost, is_cancelling_too_high, cancelling}
+use Rattle.cgs_member.specs.ReductionRun.{parts, others_at, moving, lead_quotient, cancelled, cancelling_cost, is_cancelling_too_high, cancelling}
 
 -- a fault of polynomials, where the one of degrees ends the run
 pub by_fault : {A : Type 0} (run : Ending A) (units : ℕ) (fault : PolyFault) → (fault ≡ faults.Degree → run ≡ out_of_degree units)
@@ -35,6 +35,20 @@ pub cancelling_unpaid : (ring : Ring) (f b r : List Term) (i j k l n units left 
 cancelling_unpaid ring f b r i j k l n units left ei ej ek el en h =
     let e : i * j + k * l + i * n ≡ cancelling_cost ring f b r = cc (ei, ej, ek, el, en) in
     charged_little (cancelling_cost ring f b r) units _ (subst (λ q. units < q) e h.0) ∙ ap out_of_budget (sym h.1)
+
+-- the leading part, moved
+
+pub moving_unpaid : (ring : Ring) (f r : List Term) (end units left : ℕ) → end ≡ length (lc_x ring f) → (units < end) × (left ≡ units)
+    → moving ring units f r ≡ out_of_budget left
+moving_unpaid ring f r end units left e h =
+    charged_little (length (lc_x ring f)) units _ (subst (λ n. units < n) e h.0) ∙ ap out_of_budget (sym h.1)
+
+pub moving_done : (ring : Ring) (f r g s : List Term) (end units left : ℕ) → end ≡ length (lc_x ring f) → (end ≤ units) × (left ≡ units - end)
+    → g ≡ others_at ring (lead_x ring f) f → s ≡ canonical ring (r ++ part_at ring (lead_x ring f) f) → moving ring units f r ≡ ended (parts g s) left
+moving_done ring f r g s end units left e h eg es =
+    charged_enough (length (lc_x ring f)) units _ (subst (λ n. n ≤ units) e h.0)
+    ∙ (ap (ended (parts (others_at ring (lead_x ring f) f) (canonical ring (r ++ part_at ring (lead_x ring f) f))))
+    (ap (λ n. units - n) (sym e) ∙ sym h.1) ∙ rw (eg, es) refl)
 
 either_high : (f g : List Term) → ¬ (HasLowDegrees f × HasLowDegrees g) → (is_too_high f || is_too_high g) ≡ true
 either_high f g n = by_first (is_too_high f) refl

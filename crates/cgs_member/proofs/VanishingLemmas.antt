@@ -126,13 +126,17 @@ module _ (ring : Ring) (a : List ℕ) where
   vanish_zero zero (x ∷ r) h l v y = absurd (omega arith)
   vanish_zero (suc n) (x ∷ r) h l v y =
       let s = others_fewer ring (x ∷ r) (omega arith) in
-      zero_whole x r h v.0 (vanish_zero n (others_at ring (lead_x ring (x ∷ r)) (x ∷ r)) (others_canonical ring (lead_x ring (x ∷ r)) (x ∷ r) h) (omega arith) v.1) y
+      zero_whole x r h v.0 (vanish_zero n (others_at ring (lead_x ring (x ∷ r)) (x ∷ r)) (others_canonical ring (lead_x ring (x ∷ r)) (x ∷ r) h)
+      (omega arith) v.1) y
 
   zero_vanish : (n : ℕ) (r : List Term) → IsCanonical ring r → BecomesZero r → AllVanish ring a (coefficients_in n ring r)
   zero_vanish zero r h k = tt
   zero_vanish (suc n) [] h k = tt
-  zero_vanish (suc n) (x ∷ r) h k =
-      (zero_leading x r h k, zero_vanish n (others_at ring (lead_x ring (x ∷ r)) (x ∷ r)) (others_canonical ring (lead_x ring (x ∷ r)) (x ∷ r) h) (zero_others x r h k))
+  zero_vanish (suc n) (x ∷ r) h k = (
+    zero_leading x r h k,
+    zero_vanish n (others_at ring (lead_x ring (x ∷ r)) (x ∷ r)) (others_canonical ring (lead_x ring (x ∷ r)) (x ∷ r) h)
+        (zero_others x r h k),
+  )
 
   pub coefficients_vanish : (r : List Term) → IsCanonical ring r → AllVanish ring a (coefficients ring r) ↔ BecomesZero r
   coefficients_vanish r h = (λ v. vanish_zero (length r) r h (omega arith) v, λ k. zero_vanish (length r) r h k)
@@ -162,8 +166,11 @@ module _ (ring : Ring) (a : List ℕ) where
 each_coefficient : (ring : Ring) (n : ℕ) (r : List Term) → IsCanonical ring r → AllByRecursion (IsCanonical ring) (coefficients_in n ring r)
 each_coefficient ring zero r h = tt
 each_coefficient ring (suc n) [] h = tt
-each_coefficient ring (suc n) (x ∷ r) h =
-    (lc_x_canonical ring (x ∷ r) h, each_coefficient ring n (others_at ring (lead_x ring (x ∷ r)) (x ∷ r)) (others_canonical ring (lead_x ring (x ∷ r)) (x ∷ r) h))
+each_coefficient ring (suc n) (x ∷ r) h = (
+  lc_x_canonical ring (x ∷ r) h,
+  each_coefficient ring n (others_at ring (lead_x ring (x ∷ r)) (x ∷ r))
+      (others_canonical ring (lead_x ring (x ∷ r)) (x ∷ r) h),
+)
 
 -- made monic and added to a list they vanish alike
 

@@ -11,16 +11,17 @@ ghost use Rattle.cgs_entry.specs.Entries.{IsEntry, is_refused};
 ghost use Rattle.cgs_member.specs.Cases.{coefficients, cases_run};
 ghost use Rattle.cgs_member.specs.Laws.{DecideMembership};
 
-use crate::parts::behind_lead;
+use crate::parts::{part_end, terms_between};
 use crate::reduction::reduce;
 use cgs_divide::Stop;
-use cgs_entry::{Entry, EntryKind, add};
-use cgs_list::Duplicate;
+use cgs_entry::{Entry, EntryKind, GrowingList};
 use cgs_poly::{Poly, PolyList, Ring};
 use std::alloc::{AllocError, Global};
 
 /// Polynomials in the parameters that are all 0 exactly at those points of the entry's region where `f` lies in the specialised
-/// ideal; so it lies there at every point where there are none. Units and errors are as for `divide`.
+/// ideal; where there are none, it lies there at every point. A step by a member of the basis takes as many units from `fuel` as
+/// it makes products of terms, and a term of what is left takes one. It errs where a step costs more than is left, or where
+/// monomials are multiplied whose degrees are above 32767 together; `fuel` is what is left then.
 pub fn cases(
     alloc: Global,
     ring: &Ring,
@@ -70,12 +71,14 @@ fn monic_coefficients(alloc: Global, ring: &Ring, r: &Poly) -> Result<PolyList, 
     ensures ok { IfOk result (λ list. list ≡ with_members ring.now [] (coefficients ring.now r.now)) }
     ensures conditions { IfOk result (λ list. AllByRecursion (IsCondition ring.now) list) }
 {
-    let mut list = PolyList::new(alloc);
-    let mut rest = r.copy()?;
-    while rest.len() > 0 {
-        let c = Poly::lc_x(alloc, ring, &rest)?;
-        add(alloc, ring, &mut list, &c)?;
-        rest = behind_lead(alloc, ring, &rest)?;
+    let mut list = GrowingList::new(alloc, &PolyList::new(alloc))?;
+    let mut from = 0;
+    while from < r.len() {
+        let end = part_end(ring, r, from);
+        let part = terms_between(alloc, ring, r, from, end)?;
+        let c = Poly::lc_x(alloc, ring, &part)?;
+        list.add(alloc, ring, &c)?;
+        from = end;
     }
-    Ok(list)
+    Ok(list.into_members())
 }

@@ -1,6 +1,6 @@
-//! The terms of a polynomial with its leading monomial in the variables, and the other terms.
+//! The terms of a polynomial that have one monomial in the variables: they stand side by side.
 
-ghost use Rattle.std.specs.Prelude.{◌≡◌, ◌<◌, length, IfOk};
+ghost use Rattle.std.specs.Prelude.{◌≡◌, ◌<◌, ◌≤◌, ◌-◌, length, take, drop, IfOk};
 ghost use Rattle.cgs_poly.specs.Polynomial.{IsRing, IsPoly};
 ghost use Rattle.cgs_poly.specs.Parameters.{lead_x, part_at};
 ghost use Rattle.cgs_member.specs.ReductionRun.{others_at};
@@ -8,48 +8,46 @@ ghost use Rattle.cgs_member.specs.ReductionRun.{others_at};
 use cgs_poly::{Poly, Ring};
 use std::alloc::{AllocError, Global};
 
-/// The terms with the leading monomial in the variables.
-pub(crate) fn lead_part(alloc: Global, ring: &Ring, f: &Poly) -> Result<Poly, AllocError>
+/// The place behind those that have the variables of the term at a place.
+pub(crate) fn part_end(ring: &Ring, f: &Poly, from: usize) -> usize
     requires ring { IsRing ring.now }
     requires poly { IsPoly ring.now f.now }
-    requires some { 0 < length f.now }
-    ensures part { IfOk result (λ h. h ≡ part_at ring.now (lead_x ring.now f.now) f.now) }
-    ensures poly { IfOk result (λ h. IsPoly ring.now h) }
+    requires place { from < length f.now }
+    ensures rising { from < result }
+    ensures within { result ≤ length f.now }
+    ensures part { part_at ring.now (lead_x ring.now (drop from f.now)) (drop from f.now) ≡ take (result - from) (drop from f.now) }
+    ensures others { others_at ring.now (lead_x ring.now (drop from f.now)) (drop from f.now) ≡ drop result f.now }
 {
-    let mut part = Poly::zero(alloc);
-    let Some(x) = f.lead_x(ring) else {
-        return Ok(part);
-    };
+    let count = f.len();
     let variables = ring.variables as usize;
-    for i in 0..f.len() {
-        let term = f.term(i);
-        let (own, _) = term.exponents.split_at(variables);
-        if own == x {
-            part.push(term.coefficient, term.exponents)?;
+    let (x, _) = f.term(from).exponents.split_at(variables);
+    for to in from + 1..count {
+        let (own, _) = f.term(to).exponents.split_at(variables);
+        if own != x {
+            return to;
         }
     }
-    Ok(part)
+    count
 }
 
-/// The other terms.
-pub(crate) fn behind_lead(alloc: Global, ring: &Ring, f: &Poly) -> Result<Poly, AllocError>
-    requires ring { IsRing ring.now }
+/// The sum of the terms from one place up to another.
+pub(crate) fn terms_between(
+    alloc: Global,
+    ring: &Ring,
+    f: &Poly,
+    from: usize,
+    to: usize,
+) -> Result<Poly, AllocError>
     requires poly { IsPoly ring.now f.now }
-    requires some { 0 < length f.now }
-    ensures part { IfOk result (λ h. h ≡ others_at ring.now (lead_x ring.now f.now) f.now) }
-    ensures poly { IfOk result (λ h. IsPoly ring.now h) }
+    requires rising { from ≤ to }
+    requires within { to ≤ length f.now }
+    ensures terms { IfOk result (λ part. part ≡ take (to - from) (drop from f.now)) }
+    ensures poly { IfOk result (λ part. IsPoly ring.now part) }
 {
-    let mut others = Poly::zero(alloc);
-    let Some(x) = f.lead_x(ring) else {
-        return Ok(others);
-    };
-    let variables = ring.variables as usize;
-    for i in 0..f.len() {
+    let mut part = Poly::zero(alloc);
+    for i in from..to {
         let term = f.term(i);
-        let (own, _) = term.exponents.split_at(variables);
-        if own != x {
-            others.push(term.coefficient, term.exponents)?;
-        }
+        part.push(term.coefficient, term.exponents)?;
     }
-    Ok(others)
+    Ok(part)
 }

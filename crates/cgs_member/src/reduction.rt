@@ -2,12 +2,12 @@
 
 ghost use Rattle.std.specs.Prelude.{◌≡◌, ◌<◌, ◌≤◌, ◌*◌, ◌+◌, ◌-◌, ◌^◌, [], length, true, IsNone, IfSome, IfOk, OnOk, OnErr, IfErr};
 ghost use Rattle.cgs_poly.specs.Polynomial.{IsRing, IsPoly, ArePolys};
-ghost use Rattle.cgs_poly.specs.Parameters.{lead_x, lc_x};
+ghost use Rattle.cgs_poly.specs.Parameters.{lead_x};
 ghost use Rattle.cgs_divide.specs.Ending.{EndsAs};
 ghost use Rattle.cgs_member.specs.ReductionRun as run;
 
 use crate::cancelling::cancel;
-use crate::parts::{behind_lead, lead_part};
+use crate::parts::{part_end, terms_between};
 use cgs_divide::{Stop, spend};
 use cgs_exps::divides;
 use cgs_list::Duplicate;
@@ -66,10 +66,9 @@ fn step(
     ensures paid { OnOk result (fuel.new < fuel.old) }
     ensures units { fuel.new ≤ fuel.old }
 {
-    let c = Poly::lc_x(alloc, ring, f)?;
     match first_divisor(ring, basis, f) {
-        Some(i) => cancelling(alloc, ring, basis.get(i), &c, f, r, fuel),
-        None => moving(alloc, ring, &c, f, r, fuel),
+        Some(i) => cancelling(alloc, ring, basis.get(i), f, r, fuel),
+        None => moving(alloc, ring, f, r, fuel),
     }
 }
 
@@ -78,7 +77,6 @@ fn cancelling(
     alloc: Global,
     ring: &Ring,
     b: &Poly,
-    c: &Poly,
     f: &Poly,
     r: &Poly,
     fuel: &mut u64,
@@ -87,7 +85,6 @@ fn cancelling(
     requires member { IsPoly ring.now b.now }
     requires poly { IsPoly ring.now f.now }
     requires some { 0 < length f.now }
-    requires coefficient { c.now ≡ lc_x ring.now f.now }
     requires divides { run.lead_divides ring.now b.now (lead_x ring.now f.now) ≡ true }
     requires remainder { IsPoly ring.now r.now }
     ensures ends { EndsAs (run.cancelling ring.now b.now fuel.old f.now r.now) fuel.new result }
@@ -96,26 +93,19 @@ fn cancelling(
     ensures paid { OnOk result (fuel.new < fuel.old) }
     ensures units { fuel.new ≤ fuel.old }
 {
+    let c = Poly::lc_x(alloc, ring, f)?;
     let d = Poly::lc_x(alloc, ring, b)?;
     spend_products(d.len(), f.len(), c.len(), b.len(), r.len(), fuel)?;
-    let rest = cancel(alloc, ring, &d, c, f, b)?;
+    let rest = cancel(alloc, ring, &d, &c, f, b)?;
     let remainder = Poly::product(alloc, ring, &d, r)?;
     Ok(Parts { rest, remainder })
 }
 
 // The step where no lead divides that of `f`.
-fn moving(
-    alloc: Global,
-    ring: &Ring,
-    c: &Poly,
-    f: &Poly,
-    r: &Poly,
-    fuel: &mut u64,
-) -> Result<Parts, Stop>
+fn moving(alloc: Global, ring: &Ring, f: &Poly, r: &Poly, fuel: &mut u64) -> Result<Parts, Stop>
     requires ring { IsRing ring.now }
     requires poly { IsPoly ring.now f.now }
     requires some { 0 < length f.now }
-    requires coefficient { c.now ≡ lc_x ring.now f.now }
     requires remainder { IsPoly ring.now r.now }
     ensures ends { EndsAs (run.moving ring.now fuel.old f.now r.now) fuel.new result }
     ensures rest { IfOk result (λ p. IsPoly ring.now p.rest) }
@@ -123,10 +113,11 @@ fn moving(
     ensures paid { OnOk result (fuel.new < fuel.old) }
     ensures units { fuel.new ≤ fuel.old }
 {
-    spend(fuel, c.len() as u64)?;
-    let part = lead_part(alloc, ring, f)?;
+    let end = part_end(ring, f, 0);
+    spend(fuel, end as u64)?;
+    let part = terms_between(alloc, ring, f, 0, end)?;
     let remainder = Poly::add(alloc, ring, r, &part)?;
-    let rest = behind_lead(alloc, ring, f)?;
+    let rest = terms_between(alloc, ring, f, end, f.len())?;
     Ok(Parts { rest, remainder })
 }
 

@@ -33,7 +33,8 @@ returns-in_err-lifted-clause-degree c = λ e low.
     let k = err_from_is_err_and c.from_residual.result c.from_residual.ensures.1 in
     let same : Err k.0 ≡ Err fault.Degree = sym k.1 ∙ e in
     let degree : c.in_err-lifted.field-0.0 ≡ fault.Degree = cc (k.2, same) in
-    let of_ring = multiple_of_ring ring 1 (lead_quotient ring f b) (lc_x ring f) t (canonical_of_ring ring (lc_x ring f) (lc_x_poly ring f c.requires.poly).canonical) in
+    let of_ring = multiple_of_ring ring 1 (lead_quotient ring f b) (lc_x ring f) t
+    (canonical_of_ring ring (lc_x ring f) (lc_x_poly ring f c.requires.poly).canonical) in
     c.in_err-lifted.ensures.degree (ap Err degree)
     (subst (λ g. HasLowDegrees (multiple 1 (lead_quotient ring f b) g)) (sym c.requires.second)
     (low_first_factor ring (multiple 1 (lead_quotient ring f b) (lc_x ring f)) b of_ring (canonical_of_ring ring b c.requires.member.canonical) some low.1))

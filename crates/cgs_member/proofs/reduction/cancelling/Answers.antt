@@ -17,12 +17,18 @@ paid : (c : In_ok-spend_products) → (cancelling_cost c.args.ring.now c.args.f.
 paid c =
     cancelling_paid c.args.ring.now c.args.f.now c.args.b.now c.args.r.now c.len.result c.len-2.result c.len-3.result c.len-4.result c.len-5.result
     c.args.fuel.now c.spend_products.new.fuel (c.len.ensures ∙ ap length c.in_ok-d.ensures.part) c.len-2.ensures
-    (c.len-3.ensures ∙ ap length c.requires.coefficient) c.len-4.ensures c.len-5.ensures c.in_ok-spend_products.ensures.ok
+    (c.len-3.ensures ∙ ap length c.in_ok-c.ensures.part) c.len-4.ensures c.len-5.ensures c.in_ok-spend_products.ensures.ok
 
 pub returns-clause-paid : goal.returns-clause-paid
 returns-clause-paid c =
     let p = paid (goal.at.returns-clause-paid c).In_ok-spend_products in
-    omega (arith, p.0, p.1, cost_positive c.args.ring.now c.args.f.now c.args.b.now c.args.r.now (lead_x c.args.ring.now c.args.f.now) c.requires.some c.requires.divides)
+    omega (
+      arith,
+      p.0,
+      p.1,
+      cost_positive c.args.ring.now c.args.f.now c.args.b.now c.args.r.now (lead_x c.args.ring.now c.args.f.now)
+          c.requires.some c.requires.divides,
+    )
 
 pub returns-in_err-rest-clause-ends : goal.returns-in_err-rest-clause-ends
 returns-in_err-rest-clause-ends c =
@@ -57,4 +63,4 @@ returns-in_err-spend_products-clause-ends c =
     (subst (λ s. EndsAs (run.cancelling c.args.ring.now c.args.b.now c.args.fuel.now c.args.f.now c.args.r.now) c.spend_products.new.fuel (Err s)) (sym stop)
     (cancelling_unpaid c.args.ring.now c.args.f.now c.args.b.now c.args.r.now c.len.result c.len-2.result c.len-3.result c.len-4.result c.len-5.result
     c.args.fuel.now c.spend_products.new.fuel (c.len.ensures ∙ ap length c.in_ok-d.ensures.part) c.len-2.ensures
-    (c.len-3.ensures ∙ ap length c.requires.coefficient) c.len-4.ensures c.len-5.ensures c.in_err-spend_products.ensures.budget))
+    (c.len-3.ensures ∙ ap length c.in_ok-c.ensures.part) c.len-4.ensures c.len-5.ensures c.in_err-spend_products.ensures.budget))

@@ -12,7 +12,8 @@ returns-in_err-parts-clause-ends c =
     (subst (λ k. EndsAs k c.step.new.fuel (Err c.in_err-parts.field-0.0))
     (sym (reduction_step c.args.ring.now c.args.basis.now c.loop-alloc.fuel c.loop-alloc.rest c.loop-alloc.remainder
     (omega (arith, c.len.ensures, c.loop-alloc-test.true))) ∙ c.loop-alloc.invariant.run)
-    (stops _ (λ p left. reduction c.args.ring.now c.args.basis.now left p.rest p.remainder) c.step.new.fuel c.in_err-parts.field-0.0 c.in_err-parts.ensures.ends))
+    (stops _ (λ p left. reduction c.args.ring.now c.args.basis.now left p.rest p.remainder) c.step.new.fuel
+    c.in_err-parts.field-0.0 c.in_err-parts.ensures.ends))
 
 pub loop-alloc-preserved : goal.loop-alloc-preserved
 loop-alloc-preserved c = record {

@@ -20,7 +20,7 @@ use Rattle.cgs_divide.specs.DivisionRun.{is_too_high}
 use Rattle.cgs_divide.specs.Ending.{Ending, ended, out_of_degree, followed}
 use Rattle.cgs_basis.specs.BasisRun.{basis_run}
 use Rattle.cgs_radical.specs.EmptinessRun.{y_ring, with_y, y_times_less_one, products_remainder}
-use Rattle.cgs_radical.specs.EmptinessRun.{is_one_alone, contradiction_run, emptiness_run}
+use Rattle.cgs_radical.specs.EmptinessRun.{is_one_alone, contradiction_run, emptiness_from, vanishing_run, emptiness_run}
 
 -- lists
 
@@ -52,25 +52,22 @@ module _ (ring : Ring) (B : List (List Term)) (units : ℕ) where
       ≡ followed (basis_run ring (B ++ y_times_less_one ring q ∷ []) units) (λ G. ended (is_one_alone ring G))
   contradiction_found q some e = by_degree q false some e
 
--- the parts of the run, in the ring Y above the parameters
+-- the run after the basis of the conditions that have to vanish, in the ring Y above the parameters
 
-module _ (ring Y : Ring) (E N zs ns : List (List Term)) (start : List Term) (units : ℕ) (y : Y ≡ y_ring ring)
-    (z : zs ≡ with_y ring E) (n : ns ≡ with_y ring N) (o : start ≡ one Y) where
-  -- what follows the basis of E, and what follows the product of N
-  abbrev pub after_basis : List (List Term) → ℕ → Ending Bool
-  after_basis B left = followed (products_remainder Y B ns start left) (contradiction_run basis_run Y B)
+module _ (ring Y : Ring) (N ns : List (List Term)) (start : List Term) (y : Y ≡ y_ring ring) (n : ns ≡ with_y ring N) (o : start ≡ one Y)
+    (E B : List (List Term)) (units left : ℕ) (kept : vanishing_run ring E units ≡ ended B left) where
+  abbrev from : Ring → List (List Term) → List Term → Ending Bool
+  from Y ns start = followed (products_remainder Y B ns start left) (contradiction_run basis_run Y B)
 
-  pub basis_part : emptiness_run ring E N units ≡ followed (basis_run Y zs units) after_basis
-  basis_part = rw (o, n, z, y) refl
+  parts : emptiness_from basis_run ring N B left ≡ from Y ns start
+  parts = sym (ap (λ Y. from Y ns start) y ∙ (ap (λ ns. from (y_ring ring) ns start) n ∙ ap (from (y_ring ring) (with_y ring N)) (o ∙ ap one y)))
 
-  pub product_part : (B : List (List Term)) (left : ℕ) → basis_run Y zs units ≡ ended B left
-      → emptiness_run ring E N units ≡ followed (products_remainder Y B ns start left) (contradiction_run basis_run Y B)
-  product_part B left e = basis_part ∙ ap (λ r. followed r after_basis) e
+  pub product_part : emptiness_run ring E N units ≡ from Y ns start
+  product_part = ap (λ r. followed r (emptiness_from basis_run ring N)) kept ∙ parts
 
-  pub contradiction_part : (B : List (List Term)) (q : List Term) (left last : ℕ)
-      → basis_run Y zs units ≡ ended B left → products_remainder Y B ns start left ≡ ended q last
+  pub contradiction_part : (q : List Term) (last : ℕ) → products_remainder Y B ns start left ≡ ended q last
       → emptiness_run ring E N units ≡ contradiction_run basis_run Y B q last
-  contradiction_part B q left last e k = product_part B left e ∙ ap (λ r. followed r (contradiction_run basis_run Y B)) k
+  contradiction_part q last e = product_part ∙ ap (λ r. followed r (contradiction_run basis_run Y B)) e
 
 same_tests : (a b : Bool) → (a ≡ true → b ≡ true) → (b ≡ true → a ≡ true) → a ≡ b
 same_tests true true f g = refl

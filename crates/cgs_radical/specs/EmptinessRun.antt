@@ -55,11 +55,18 @@ contradiction_run basis ring B (x ∷ q) units =
     cond (is_too_high (multiple 1 (1 ∷ replicate ring.parameters 0) (x ∷ q))) (out_of_degree units)
     (followed (basis ring (B ++ y_times_less_one ring (x ∷ q) ∷ []) units) (λ G. ended (is_one_alone ring G)))
 
--- the basis of E, the remainder of the product of N by it, and the test of the two
+-- the remainder of the product of N by the basis B of the conditions that have to vanish, and the test of the two
+abbrev pub emptiness_from : BasisRun → Ring → List (List Term) → List (List Term) → ℕ → Ending Bool
+emptiness_from basis ring N B units =
+    followed (products_remainder (y_ring ring) B (with_y ring N) (one (y_ring ring)) units) (contradiction_run basis (y_ring ring) B)
+
+-- the basis of E, and what follows it
 abbrev pub emptiness_by : BasisRun → Ring → List (List Term) → List (List Term) → ℕ → Ending Bool
-emptiness_by basis ring E N units =
-    followed (basis (y_ring ring) (with_y ring E) units) (λ B left.
-    followed (products_remainder (y_ring ring) B (with_y ring N) (one (y_ring ring)) left) (contradiction_run basis (y_ring ring) B))
+emptiness_by basis ring E N units = followed (basis (y_ring ring) (with_y ring E) units) (emptiness_from basis ring N)
+
+-- the basis of E with a variable above the parameters, by Buchberger's algorithm
+abbrev pub vanishing_run : Ring → List (List Term) → ℕ → Ending (List (List Term))
+vanishing_run ring E units = basis_run (y_ring ring) (with_y ring E) units
 
 -- the emptiness run, by Buchberger's algorithm
 abbrev pub emptiness_run : Ring → List (List Term) → List (List Term) → ℕ → Ending Bool

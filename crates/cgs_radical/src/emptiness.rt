@@ -2,14 +2,15 @@
 
 ghost use Rattle.std.specs.Prelude.{ℕ, ◌≡◌, ◌<◌, ◌≤◌, ◌↔◌, List, [], ◌∷◌, replicate, IsTrue, IfOk, OnOk, IsErrOf};
 ghost use Rattle.std.specs.List.{AllByRecursion};
-ghost use Rattle.cgs_poly.specs.Polynomial.{one, IsRing, IsPoly, HasLowDegrees, term, places, ArePolys};
+ghost use Rattle.cgs_poly.specs.Polynomial.{one, Term, IsRing, IsPoly, HasLowDegrees, term, places, ArePolys};
 ghost use Rattle.cgs_poly.specs.Product.{multiple};
 ghost use Rattle.cgs_poly.specs.Parameters.{IsCondition};
 ghost use Rattle.cgs_point.specs.Points.{IsPoint};
 ghost use Rattle.cgs_entry.specs.Conditions.{IsInRegion};
-ghost use Rattle.cgs_divide.specs.Ending.{EndsAs};
+ghost use Rattle.cgs_algebra.specs.Groebner.{AreMonic};
+ghost use Rattle.cgs_divide.specs.Ending.{ended, EndsAs};
 ghost use Rattle.cgs_basis.specs.BasisRun.{basis_run};
-ghost use Rattle.cgs_radical.specs.EmptinessRun.{with_y, y_ring, y_times_less_one, contradiction_run, emptiness_run};
+ghost use Rattle.cgs_radical.specs.EmptinessRun.{with_y, y_ring, y_times_less_one, contradiction_run, vanishing_run, emptiness_run};
 ghost use Rattle.cgs_radical.specs.Laws.{Contradict};
 
 use crate::product::products_remainder;
@@ -18,6 +19,7 @@ use cgs_divide::Stop;
 use cgs_entry::Conditions;
 use cgs_exps::MAX_PLACES;
 use cgs_field::Elem;
+use cgs_list::Duplicate;
 use cgs_poly::{Poly, PolyFault, PolyList, Ring, are_same};
 use std::alloc::{AllocError, Global};
 
@@ -37,12 +39,51 @@ pub fn test_empty(
     ensures no_point { IfOk result (λ empty. IsTrue empty → (a : List ℕ) → IsPoint ring.now a → ¬ (IsInRegion ring.now conditions.now.zero conditions.now.nonzero a)) }
     ensures units { fuel.new ≤ fuel.old }
 {
+    let basis = vanishing_basis(alloc, ring, &conditions.zero, fuel)?;
+    let empty = test_empty_by(alloc, ring, &basis, &conditions.nonzero, fuel)?;
+    Ok(empty)
+}
+
+/// The first part of `test_empty`: the reduced basis of the conditions that have to vanish, with one variable above the parameters. It can
+/// be kept, with the units that it leaves, for all regions with these conditions and units.
+pub fn vanishing_basis(
+    alloc: Global,
+    ring: &Ring,
+    zero: &PolyList,
+    fuel: &mut u64,
+) -> Result<PolyList, Stop>
+    requires ring { IsRing ring.now }
+    requires zero { AllByRecursion (IsCondition ring.now) zero.now }
+    ensures ends { EndsAs (vanishing_run ring.now zero.now fuel.old) fuel.new result }
+    ensures monic { IfOk result (λ B. AreMonic (y_ring ring.now) B) }
+    ensures polys { IfOk result (λ B. ArePolys (y_ring ring.now) B) }
+    ensures units { fuel.new ≤ fuel.old }
+{
     let above = with_y(ring);
-    let zero = lifted(alloc, ring, &above, &conditions.zero)?;
-    let nonzero = lifted(alloc, ring, &above, &conditions.nonzero)?;
-    let basis = reduced_basis(alloc, &above, &zero, fuel)?;
+    let generators = lifted(alloc, ring, &above, zero)?;
+    let basis = reduced_basis(alloc, &above, &generators, fuel)?;
+    Ok(basis)
+}
+
+/// The rest of `test_empty`, by the basis of the conditions that have to vanish and in the units that it leaves.
+pub fn test_empty_by(
+    alloc: Global,
+    ring: &Ring,
+    basis: &PolyList,
+    nonzero: &PolyList,
+    fuel: &mut u64,
+) -> Result<bool, Stop>
+    requires ring { IsRing ring.now }
+    requires monic { AreMonic (y_ring ring.now) basis.now }
+    requires basis { ArePolys (y_ring ring.now) basis.now }
+    requires nonzero { AllByRecursion (IsCondition ring.now) nonzero.now }
+    ensures ends { (E : List (List Term)) (units : ℕ) → vanishing_run ring.now E units ≡ ended basis.now fuel.old → EndsAs (emptiness_run ring.now E nonzero.now units) fuel.new result }
+    ensures units { fuel.new ≤ fuel.old }
+{
+    let above = with_y(ring);
+    let factors = lifted(alloc, ring, &above, nonzero)?;
     let start = Poly::one(alloc, &above)?;
-    let q = products_remainder(alloc, &above, &basis, &nonzero, start, fuel)?;
+    let q = products_remainder(alloc, &above, basis, &factors, start, fuel)?;
     let empty = contradicts(alloc, &above, basis, &q, fuel)?;
     Ok(empty)
 }
@@ -95,22 +136,22 @@ fn constant(alloc: Global, ring: &Ring, c: Elem) -> Result<Poly, PolyFault>
 fn contradicts(
     alloc: Global,
     ring: &Ring,
-    basis: PolyList,
+    basis: &PolyList,
     q: &Poly,
     fuel: &mut u64,
 ) -> Result<bool, Stop>
     requires ring { IsRing ring.now }
     requires one_variable { ring.now.variables ≡ 1 }
-    requires basis { ArePolys ring.now basis }
+    requires basis { ArePolys ring.now basis.now }
     requires poly { IsPoly ring.now q.now }
-    ensures ends { EndsAs (contradiction_run basis_run ring.now basis q.now fuel.old) fuel.new result }
+    ensures ends { EndsAs (contradiction_run basis_run ring.now basis.now q.now fuel.old) fuel.new result }
     ensures units { fuel.new ≤ fuel.old }
 {
     if q.len() == 0 {
         return Ok(true);
     }
     let last = times_y_less_one(alloc, ring, q)?;
-    let mut generators = basis;
+    let mut generators = basis.copy()?;
     generators.push(last)?;
     let found = reduced_basis(alloc, ring, &generators, fuel)?;
     let whole = one_alone(alloc, ring)?;

@@ -8,7 +8,7 @@ mod emptiness;
 mod laws;
 mod product;
 
-pub use emptiness::{one_alone, test_empty};
+pub use emptiness::{one_alone, test_empty, test_empty_by, vanishing_basis};
 pub use laws::{
     contradiction_has_no_point, emptiness_examples, empty_has_no_point, empty_is_contradiction,
 };

@@ -30,13 +30,10 @@ pub deep_node : (branch : Case) (path : List ℕ) → is_too_deep branch path �
 unfolding node_of
 deep_node branch path t = sym (ap (λ b. by_depth branch path b (emptied branch)) t)
 
--- what a branch gives by the end of its emptiness run
-pub run_node : (branch inside : Case) (path : List ℕ) (run : Ending Bool) → inside ≡ branch → is_too_deep branch path ≡ false → emptied inside ≡ run
-    → after_emptiness branch path run ≡ node_of branch path
+-- what another gives, by its emptiness run
+pub run_node : (branch : Case) (path : List ℕ) → is_too_deep branch path ≡ false → after_emptiness branch path (emptied branch) ≡ node_of branch path
 unfolding node_of
-run_node branch inside path run view t e =
-    let k : emptied branch ≡ run = ap emptied (sym view) ∙ e in
-    sym (ap (λ b. by_depth branch path b (emptied branch)) t ∙ ap (after_emptiness branch path) k)
+run_node branch path t = sym (ap (λ b. by_depth branch path b (emptied branch)) t)
 
 pub divided_is : (branch : Case) (path : List ℕ) (G : List (List Term)) (children : List Case) → is_one_alone branch.ring G ≡ false
     → children ≡ children_of branch.ring branch G (minimal_dickson branch.ring (other_members branch.ring G)) → (None, children) ≡ with_basis branch path G

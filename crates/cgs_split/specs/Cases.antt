@@ -1,9 +1,12 @@
 -- What contracts see of a branch.
-use Rattle.std.specs.Prelude.{List}
+use Rattle.std.specs.Prelude.{ℕ, ◌≡◌, List}
 use Rattle.cgs_poly.specs.Ring.{Ring}
 use Rattle.std.specs.List.{AllByRecursion}
 use Rattle.cgs_poly.specs.Polynomial.{Term, IsRing, ArePolys}
 use Rattle.cgs_poly.specs.Parameters.{IsCondition}
+use Rattle.cgs_algebra.specs.Groebner.{AreMonic}
+use Rattle.cgs_divide.specs.Ending.{ended}
+use Rattle.cgs_radical.specs.EmptinessRun.{y_ring, vanishing_run}
 use Rattle.cgs_split.specs.declared.kind.BranchKind.{BranchKind}
 use Rattle.cgs_split.specs.declared.kind.Limits.{Limits}
 
@@ -29,3 +32,9 @@ pub record IsPrepared (ring : Ring) (E N F : List (List Term)) : Type 0 where
 -- another case in the same ring under the same limits
 abbrev pub case_like : Case → BranchKind → List (List Term) → List (List Term) → List (List Term) → Case
 case_like branch kind zero nonzero polys = case_of branch.ring branch.limits kind zero nonzero polys
+
+-- B is the basis of the conditions E that have to vanish, found in a branch's units, of which so many are left
+pub record IsVanishingBasis (ring : Ring) (budget : ℕ) (E B : List (List Term)) (left : ℕ) : Type 0 where
+  pub found : vanishing_run ring E budget ≡ ended B left
+  pub monic : AreMonic (y_ring ring) B
+  pub polys : ArePolys (y_ring ring) B

@@ -8,10 +8,10 @@ ghost use Rattle.cgs_algebra.specs.Stability.{other_members as others};
 ghost use Rattle.cgs_dickson.specs.Dickson.{minimal_dickson as dickson};
 ghost use Rattle.cgs_entry.specs.Conditions.{with_members};
 ghost use Rattle.cgs_split.specs.declared.kind.BranchKind.TheVariants.{Main};
-ghost use Rattle.cgs_split.specs.Cases.{case_like};
+ghost use Rattle.cgs_split.specs.Cases.{case_like, IsVanishingBasis};
 ghost use Rattle.cgs_split.specs.Nodes.{unit_children, split_children, children_of as children};
 
-use crate::branch::Branch;
+use crate::branch::{Branch, Vanishing};
 use crate::kind::BranchKind;
 use crate::lists::{other_members, parametric_members, with_condition, with_conditions};
 use cgs_dickson::{coefficient_list, minimal_dickson};
@@ -28,9 +28,11 @@ impl Branch {
         &self,
         alloc: Global,
         basis: &PolyList,
+        vanishing: &Vanishing,
     ) -> Result<Vec<Branch>, AllocError>
         requires polys { ArePolys self.now.ring basis.now }
         requires nonzero { AllByRecursion (λ g. ¬ (g ≡ [])) basis.now }
+        requires kept { IsVanishingBasis self.now.ring self.now.limits.budget self.now.zero vanishing.now.basis vanishing.now.left }
         ensures { IfOk result (λ all. all.items ≡ children self.now.ring self.now basis.now (dickson self.now.ring (others self.now.ring basis.now))) }
     {
         let ring = &self.ring;
@@ -39,7 +41,7 @@ impl Branch {
         let other = other_members(alloc, ring, basis)?;
         let kept = minimal_dickson(alloc, ring, &other)?;
         let coefficients = coefficient_list(alloc, ring, &kept)?;
-        let vanishing = with_conditions(alloc, ring, zero, &parametric)?;
+        let longer = with_conditions(alloc, ring, zero, &parametric)?;
         let standing = with_conditions(alloc, ring, nonzero, &coefficients)?;
         let mut all = Vec::new(alloc);
         self.add_units(
@@ -48,10 +50,11 @@ impl Branch {
             zero,
             nonzero,
             &parametric,
-            &vanishing,
+            &longer,
+            vanishing,
             &mut all,
         )?;
-        let main = self.main_child(&parametric, &standing, &kept)?;
+        let main = self.main_child(&parametric, &standing, &kept, vanishing)?;
         all.push(main)?;
         self.add_splits(
             alloc,
@@ -74,7 +77,8 @@ impl Branch {
         zero: &PolyList,
         nonzero: &PolyList,
         parametric: &PolyList,
-        vanishing: &PolyList,
+        longer: &PolyList,
+        vanishing: &Vanishing,
         all: &mut Vec<Branch>,
     ) -> Result<(), AllocError>
         requires valid { IsRing ring.now }
@@ -82,16 +86,18 @@ impl Branch {
         requires zero { AllByRecursion (IsCondition ring.now) zero.now }
         requires nonzero { AllByRecursion (IsCondition ring.now) nonzero.now }
         requires parametric { AllByRecursion (IsCondition ring.now) parametric.now }
-        requires vanishing { with_members ring.now zero.now parametric.now ≡ vanishing.now }
+        requires longer { with_members ring.now zero.now parametric.now ≡ longer.now }
+        requires kept { IsVanishingBasis self.now.ring self.now.limits.budget self.now.zero vanishing.now.basis vanishing.now.left }
         ensures { OnOk result (all.new.items ≡ all.old.items ++ unit_children ring.now self.now zero.now nonzero.now parametric.now) }
     {
         let mut before = GrowingList::new(alloc, zero)?;
         for i in 0..parametric.len() {
             let g = parametric.get(i);
-            let vanish = vanishing.first(before.members().len())?;
+            let vanish = longer.first(before.members().len())?;
             let stand = with_condition(alloc, ring, nonzero, g)?;
             let polys = one_alone(alloc, ring)?;
-            all.push(self.child(BranchKind::Unit, vanish, stand, polys))?;
+            let kept = self.vanishing_for(&vanish, vanishing)?;
+            all.push(self.child(BranchKind::Unit, vanish, stand, polys, kept))?;
             before.add(alloc, ring, g)?;
         }
         Ok(())
@@ -102,17 +108,20 @@ impl Branch {
         &self,
         parametric: &PolyList,
         standing: &PolyList,
-        kept: &PolyList,
+        dickson: &PolyList,
+        vanishing: &Vanishing,
     ) -> Result<Branch, AllocError>
         requires parametric { AllByRecursion (IsCondition self.now.ring) parametric.now }
         requires standing { AllByRecursion (IsCondition self.now.ring) standing.now }
-        requires kept { ArePolys self.now.ring kept.now }
-        ensures { IfOk result (λ child. child ≡ case_like self.now Main parametric.now standing.now kept.now) }
+        requires dickson { ArePolys self.now.ring dickson.now }
+        requires kept { IsVanishingBasis self.now.ring self.now.limits.budget self.now.zero vanishing.now.basis vanishing.now.left }
+        ensures { IfOk result (λ child. child ≡ case_like self.now Main parametric.now standing.now dickson.now) }
     {
         let vanish = parametric.copy()?;
         let stand = standing.copy()?;
-        let polys = kept.copy()?.shared()?;
-        Ok(self.child(BranchKind::Main, vanish, stand, polys))
+        let polys = dickson.copy()?.shared()?;
+        let kept = self.vanishing_for(&vanish, vanishing)?;
+        Ok(self.child(BranchKind::Main, vanish, stand, polys, kept))
     }
 
     // For each leading coefficient a branch where it vanishes and those before it do not.
@@ -142,7 +151,7 @@ impl Branch {
             let vanish = with_condition(alloc, ring, parametric, h)?;
             let stand = standing.first(before.members().len())?;
             let polys = other.copy()?;
-            all.push(self.child(BranchKind::Split, vanish, stand, polys))?;
+            all.push(self.child(BranchKind::Split, vanish, stand, polys, None))?;
             before.add(alloc, ring, h)?;
         }
         Ok(())

@@ -14,7 +14,7 @@ mod lists;
 mod node;
 mod root;
 
-pub use branch::Branch;
+pub use branch::{Branch, Vanishing};
 pub use kind::{BranchKind, Limits};
 pub use laws::{
     entries_are_of_ring, entries_show_one, heights_fall, list_is_comprehensive, node_is_sound,

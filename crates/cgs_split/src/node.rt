@@ -1,16 +1,19 @@
 //! The node of a branch.
 
-ghost use Rattle.std.specs.Prelude.{◌≡◌, ◌++◌, [], IfOk};
+ghost use Rattle.std.specs.Prelude.{◌≡◌, ◌++◌, ℕ, Bool, [], Err, IfOk};
 ghost use Rattle.std.specs.List.{AllByRecursion};
 ghost use Rattle.cgs_poly.specs.Polynomial.{ArePolys};
 ghost use Rattle.cgs_entry.specs.declared.entry.EntryKind.TheVariants.{Solved};
+ghost use Rattle.cgs_divide.specs.Ending.{Ending, EndsAs};
 ghost use Rattle.cgs_basis.specs.BasisRun.{basis_run};
-ghost use Rattle.cgs_split.specs.NodeRun.{node_of, height_of, settled, after_basis, with_basis, with_points, without_test};
+ghost use Rattle.cgs_radical.specs.EmptinessRun.{emptiness_run};
+ghost use Rattle.cgs_split.specs.Cases.{IsVanishingBasis};
+ghost use Rattle.cgs_split.specs.NodeRun.{node_of, height_of, settled, after_basis, after_emptiness, with_basis, with_points, without_test};
 ghost use Rattle.cgs_split.specs.Heights.{heights_fall};
 ghost use Rattle.cgs_split.specs.Soundness.{IsGood};
 ghost use Rattle.cgs_split.specs.Trees.{own_entries, IsSoundNode};
 
-use crate::branch::Branch;
+use crate::branch::{Branch, Vanishing};
 use crate::kind::BranchKind;
 use cgs_basis::reduced_basis;
 use cgs_board::{Job, Outcome};
@@ -19,7 +22,7 @@ use cgs_entry::{Cause, Entry, EntryKind};
 use cgs_list::Duplicate;
 use cgs_path::Path;
 use cgs_poly::{PolyList, are_same, joined};
-use cgs_radical::{one_alone, test_empty};
+use cgs_radical::{one_alone, test_empty_by};
 use std::alloc::{AllocError, Global};
 
 impl Job for Branch {
@@ -39,15 +42,9 @@ impl Job for Branch {
         if self.is_too_deep(path) {
             return self.settled(alloc, path, EntryKind::Refused(Cause::Depth));
         }
-        match test_empty(alloc, &self.ring, &self.conditions, &mut fuel) {
-            Ok(true) => Ok(Outcome {
-                entry: None,
-                children: Vec::new(alloc),
-            }),
-            Ok(false) => self.with_points(alloc, path, fuel),
-            Err(Stop::Budget) => self.untested(alloc, path, Cause::Budget),
-            Err(Stop::Degree) => self.untested(alloc, path, Cause::Degree),
-            Err(Stop::OutOfMemory) => Err(AllocError),
+        match self.vanishing_basis(alloc, &mut fuel) {
+            Ok(basis) => self.tested(alloc, path, &Vanishing { basis, left: fuel }),
+            Err(stop) => self.stopped(alloc, path, stop),
         }
     }
 
@@ -55,7 +52,11 @@ impl Job for Branch {
         let zero = self.conditions.zero.copy()?;
         let nonzero = self.conditions.nonzero.copy()?;
         let polys = self.polys.copy()?;
-        Ok(self.child(self.kind, zero, nonzero, polys))
+        let vanishing = match &self.vanishing {
+            Some(kept) => Some(kept.copy()?),
+            None => None,
+        };
+        Ok(self.child(self.kind, zero, nonzero, polys, vanishing))
     }
 
     fn same(&self, other: &Branch) -> bool {
@@ -85,6 +86,49 @@ impl Branch {
             entry: Some(entry),
             children: Vec::new(alloc),
         })
+    }
+
+    // The node by the basis of the conditions that have to vanish.
+    fn tested(
+        &self,
+        alloc: Global,
+        path: &Path,
+        vanishing: &Vanishing,
+    ) -> Result<Outcome<Entry, Branch>, AllocError>
+        requires kept { IsVanishingBasis self.now.ring self.now.limits.budget self.now.zero vanishing.now.basis vanishing.now.left }
+        ensures { IfOk result (λ node. node ≡ after_emptiness self.now path.now (emptiness_run self.now.ring self.now.zero self.now.nonzero self.now.limits.budget)) }
+    {
+        let mut fuel = vanishing.left;
+        match test_empty_by(
+            alloc,
+            &self.ring,
+            &vanishing.basis,
+            &self.conditions.nonzero,
+            &mut fuel,
+        ) {
+            Ok(true) => Ok(Outcome {
+                entry: None,
+                children: Vec::new(alloc),
+            }),
+            Ok(false) => self.with_points(alloc, path, vanishing, fuel),
+            Err(stop) => self.stopped(alloc, path, stop),
+        }
+    }
+
+    // The node where the emptiness run stops.
+    fn stopped(
+        &self,
+        alloc: Global,
+        path: &Path,
+        stop: Stop,
+    ) -> Result<Outcome<Entry, Branch>, AllocError>
+        ensures { (run : Ending Bool) (left : ℕ) → EndsAs run left (Err stop) → IfOk result (λ node. node ≡ after_emptiness self.now path.now run) }
+    {
+        match stop {
+            Stop::Budget => self.untested(alloc, path, Cause::Budget),
+            Stop::Degree => self.untested(alloc, path, Cause::Degree),
+            Stop::OutOfMemory => Err(AllocError),
+        }
     }
 
     // The node where it is not known whether the region is empty.
@@ -120,12 +164,14 @@ impl Branch {
         &self,
         alloc: Global,
         path: &Path,
+        vanishing: &Vanishing,
         units: u64,
     ) -> Result<Outcome<Entry, Branch>, AllocError>
+        requires kept { IsVanishingBasis self.now.ring self.now.limits.budget self.now.zero vanishing.now.basis vanishing.now.left }
         ensures { IfOk result (λ node. node ≡ with_points self.now path.now units) }
     {
         match self.kind {
-            BranchKind::Split => self.split(alloc, path, units),
+            BranchKind::Split => self.split(alloc, path, vanishing, units),
             BranchKind::Unit | BranchKind::Main => self.solved(alloc, path, true),
         }
     }
@@ -135,14 +181,16 @@ impl Branch {
         &self,
         alloc: Global,
         path: &Path,
+        vanishing: &Vanishing,
         units: u64,
     ) -> Result<Outcome<Entry, Branch>, AllocError>
+        requires kept { IsVanishingBasis self.now.ring self.now.limits.budget self.now.zero vanishing.now.basis vanishing.now.left }
         ensures { IfOk result (λ node. node ≡ after_basis self.now path.now (basis_run self.now.ring (self.now.polys ++ self.now.zero) units)) }
     {
         let generators = joined(alloc, &self.polys, &self.conditions.zero)?;
         let mut fuel = units;
         match reduced_basis(alloc, &self.ring, &generators, &mut fuel) {
-            Ok(basis) => self.divided(alloc, path, basis),
+            Ok(basis) => self.divided(alloc, path, vanishing, basis),
             Err(Stop::Budget) => self.settled(alloc, path, EntryKind::Refused(Cause::Budget)),
             Err(Stop::Degree) => self.settled(alloc, path, EntryKind::Refused(Cause::Degree)),
             Err(Stop::OutOfMemory) => Err(AllocError),
@@ -154,8 +202,10 @@ impl Branch {
         &self,
         alloc: Global,
         path: &Path,
+        vanishing: &Vanishing,
         basis: PolyList,
     ) -> Result<Outcome<Entry, Branch>, AllocError>
+        requires kept { IsVanishingBasis self.now.ring self.now.limits.budget self.now.zero vanishing.now.basis vanishing.now.left }
         requires polys { ArePolys self.now.ring basis }
         requires nonzero { AllByRecursion (λ g. ¬ (g ≡ [])) basis }
         ensures { IfOk result (λ node. node ≡ with_basis self.now path.now basis) }
@@ -171,7 +221,7 @@ impl Branch {
                 },
             );
         }
-        let children = self.children(alloc, &basis)?;
+        let children = self.children(alloc, &basis, vanishing)?;
         Ok(Outcome {
             entry: None,
             children,

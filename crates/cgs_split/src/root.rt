@@ -30,5 +30,6 @@ pub fn root_branch(alloc: Global, problem: &Problem, limits: &Limits) -> Result<
         kind: BranchKind::Split,
         conditions: Conditions { zero, nonzero },
         polys,
+        vanishing: None,
     })
 }

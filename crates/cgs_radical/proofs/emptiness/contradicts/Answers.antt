@@ -21,20 +21,21 @@ returns-in_err-last-clause-ends c =
     (λ e.
     let k : c.in_err-last.field-0.0 ≡ fault.Degree = fault_of_degree c.in_err-last.field-0.0 e in
     let high = high_unless_low (multiple 1 (1 ∷ replicate c.args.ring.now.parameters 0) c.args.q.now) (c.in_err-last.ensures.degree (ap Err k)) in
-    contradiction_high c.args.ring.now c.args.basis c.args.fuel.now c.args.q.now (λ z. c.if-len-eq0.false (c.len.ensures ∙ ap length z)) high))
+    contradiction_high c.args.ring.now c.args.basis.now c.args.fuel.now c.args.q.now (λ z. c.if-len-eq0.false (c.len.ensures ∙ ap length z)) high))
 
 pub reduced_basis-requires-clause-polys : goal.reduced_basis-requires-clause-polys
 reduced_basis-requires-clause-polys c =
-    subst (ArePolys c.args.ring.now) (sym c.in_ok-push.ensures.ok)
-    (all_push (IsPoly c.args.ring.now) c.args.basis c.in_ok-last.last c.requires.basis c.in_ok-last.ensures.poly)
+    subst (ArePolys c.args.ring.now) (sym (c.in_ok-push.ensures.ok ∙ ap (λ B. B ++ c.in_ok-last.last ∷ []) c.in_ok-generators.ensures))
+    (all_push (IsPoly c.args.ring.now) c.args.basis.now c.in_ok-last.last c.requires.basis c.in_ok-last.ensures.poly)
 
 -- the run is that of the basis
-by_basis : (c : In_ok-push) → contradiction_run basis_run c.args.ring.now c.args.basis c.args.q.now c.args.fuel.now
+by_basis : (c : In_ok-push) → contradiction_run basis_run c.args.ring.now c.args.basis.now c.args.q.now c.args.fuel.now
     ≡ followed (basis_run c.args.ring.now c.push.new.self c.args.fuel.now) (λ G. ended (is_one_alone c.args.ring.now G))
 by_basis c =
     let low = low_not_high (multiple 1 (1 ∷ replicate c.args.ring.now.parameters 0) c.args.q.now) c.in_ok-last.ensures.low in
-    let g = c.in_ok-push.ensures.ok ∙ ap (λ f. c.args.basis ++ f ∷ []) c.in_ok-last.ensures.ok in
-    contradiction_found c.args.ring.now c.args.basis c.args.fuel.now c.args.q.now (λ z. c.if-len-eq0.false (c.len.ensures ∙ ap length z)) low
+    let g = c.in_ok-push.ensures.ok ∙ (ap (λ B. B ++ c.in_ok-last.last ∷ []) c.in_ok-generators.ensures
+    ∙ ap (λ f. c.args.basis.now ++ f ∷ []) c.in_ok-last.ensures.ok) in
+    contradiction_found c.args.ring.now c.args.basis.now c.args.fuel.now c.args.q.now (λ z. c.if-len-eq0.false (c.len.ensures ∙ ap length z)) low
     ∙ ap (λ L. followed (basis_run c.args.ring.now L c.args.fuel.now) (λ G. ended (is_one_alone c.args.ring.now G))) (sym g)
 
 pub returns-in_err-found-clause-ends : goal.returns-in_err-found-clause-ends

@@ -17,7 +17,7 @@ pub loop-i-preserved : goal.loop-i-preserved
 loop-i-preserved c =
     let g = all_at (IsCondition c.args.ring.now) c.args.parametric.now c.loop-i.i c.get-g.result.now c.requires.parametric c.get-g.ensures in
     let kept = c.in_ok-vanish.ensures
-    ∙ first_were_there c.args.ring.now c.loop-i.before (drop c.loop-i.i c.args.parametric.now) c.args.vanishing.now c.len.result c.loop-i.invariant.whole
+    ∙ first_were_there c.args.ring.now c.loop-i.before (drop c.loop-i.i c.args.parametric.now) c.args.longer.now c.len.result c.loop-i.invariant.whole
     (c.len.ensures ∙ ap length c.members.ensures) in
     let made = c.child.ensures
     ∙ (ap (λ E. case_like c.args.self.now UnitKind E c.in_ok-stand.stand c.in_ok-polys.polys) kept
@@ -29,7 +29,7 @@ loop-i-preserved c =
           c.loop-i.before c.args.nonzero.now c.args.parametric.now c.add.new.self c.get-g.result.now c.get-g.ensures made c.in_ok-add.ensures.ok
           ∙ c.loop-i.invariant.made;
       whole = ap (λ L. with_members c.args.ring.now L (drop (c.loop-i.i + 1) c.args.parametric.now)) c.in_ok-add.ensures.ok
-          ∙ whole_after c.args.ring.now c.loop-i.before c.args.parametric.now c.args.vanishing.now c.loop-i.i c.get-g.result.now c.get-g.ensures
+          ∙ whole_after c.args.ring.now c.loop-i.before c.args.parametric.now c.args.longer.now c.loop-i.i c.get-g.result.now c.get-g.ensures
           c.loop-i.invariant.whole;
       conditions = c.in_ok-add.ensures.conditions c.loop-i.invariant.conditions g;
     }
@@ -37,7 +37,7 @@ loop-i-preserved c =
 pub child-requires-clause-zero : goal.child-requires-clause-zero
 child-requires-clause-zero c =
     let kept = c.in_ok-vanish.ensures
-    ∙ first_were_there c.args.ring.now c.loop-i.before (drop c.loop-i.i c.args.parametric.now) c.args.vanishing.now c.len.result c.loop-i.invariant.whole
+    ∙ first_were_there c.args.ring.now c.loop-i.before (drop c.loop-i.i c.args.parametric.now) c.args.longer.now c.len.result c.loop-i.invariant.whole
     (c.len.ensures ∙ ap length c.members.ensures) in
     subst (λ ring. AllByRecursion (IsCondition ring) c.in_ok-vanish.vanish) c.requires.ring
     (subst (λ L. AllByRecursion (IsCondition c.args.ring.now) L) (sym kept) c.loop-i.invariant.conditions)

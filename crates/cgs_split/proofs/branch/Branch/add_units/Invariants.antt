@@ -9,6 +9,6 @@ abbrev pub invariant-loop-i : goal.invariant-loop-i
 invariant-loop-i l = record {
   made : l.all.items ++ unit_children l.ring l.self l.before l.nonzero (drop l.i l.parametric) ≡ l.fn.all.items
       ++ unit_children l.ring l.self l.zero l.nonzero l.parametric;
-  whole : with_members l.ring l.before (drop l.i l.parametric) ≡ l.vanishing;
+  whole : with_members l.ring l.before (drop l.i l.parametric) ≡ l.longer;
   conditions : AllByRecursion (IsCondition l.ring) l.before;
 }

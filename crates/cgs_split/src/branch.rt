@@ -38,6 +38,19 @@ impl Duplicate for Vanishing {
     }
 }
 
+/// The same, if there is one.
+pub(crate) fn copy_of(vanishing: &Option<Vanishing>) -> Result<Option<Vanishing>, AllocError>
+    ensures { IfOk result (λ copy. copy ≡ vanishing.now) }
+{
+    match vanishing {
+        Some(kept) => {
+            let copy = kept.copy()?;
+            Ok(Some(copy))
+        }
+        None => Ok(None),
+    }
+}
+
 /// Polynomials under conditions: the points at which they are looked at. Its polynomials are of its ring, and its conditions have no variable. The
 /// basis of those that have to vanish may stand with it, where its parent has found it; no clause but its own speaks of that.
 #[derive(Drop)]
@@ -122,6 +135,51 @@ impl Branch {
             Ok(Some(kept))
         } else {
             Ok(None)
+        }
+    }
+
+    /// The basis of the conditions of one unit child and that of the next, where the first may be known. If these have the same conditions it
+    /// is found here.
+    pub(crate) fn vanishing_of_next(
+        &self,
+        alloc: Global,
+        zero: &PolyList,
+        known: &Option<Vanishing>,
+        next: &PolyList,
+    ) -> Result<(Option<Vanishing>, Option<Vanishing>), AllocError>
+        requires zero { AllByRecursion (IsCondition self.now.ring) zero.now }
+        requires known { IfSome known.now (λ v. IsVanishingBasis self.now.ring self.now.limits.budget zero.now v.basis v.left) }
+        ensures { IfOk result (λ both. IfSome both.0 (λ v. IsVanishingBasis self.now.ring self.now.limits.budget zero.now v.basis v.left) × IfSome both.1 (λ v. IsVanishingBasis self.now.ring self.now.limits.budget next.now v.basis v.left)) }
+    {
+        if !are_same(zero, next) {
+            let kept = copy_of(known)?;
+            return Ok((kept, None));
+        }
+        let found = match known {
+            Some(_) => copy_of(known)?,
+            None => self.found_vanishing(alloc, zero)?,
+        };
+        let again = copy_of(&found)?;
+        Ok((found, again))
+    }
+
+    // The basis of conditions that have to vanish, where it is found in a branch's units.
+    fn found_vanishing(
+        &self,
+        alloc: Global,
+        zero: &PolyList,
+    ) -> Result<Option<Vanishing>, AllocError>
+        requires zero { AllByRecursion (IsCondition self.now.ring) zero.now }
+        ensures { IfOk result (λ found. IfSome found (λ v. IsVanishingBasis self.now.ring self.now.limits.budget zero.now v.basis v.left)) }
+    {
+        let mut fuel = self.limits.budget;
+        match vanishing_basis(alloc, &self.ring, zero, &mut fuel) {
+            Ok(basis) => {
+                let basis = basis.shared()?;
+                Ok(Some(Vanishing { basis, left: fuel }))
+            }
+            Err(Stop::Budget | Stop::Degree) => Ok(None),
+            Err(Stop::OutOfMemory) => Err(AllocError),
         }
     }
 

@@ -91,14 +91,16 @@ impl Branch {
         ensures { OnOk result (all.new.items ≡ all.old.items ++ unit_children ring.now self.now zero.now nonzero.now parametric.now) }
     {
         let mut before = GrowingList::new(alloc, zero)?;
+        let mut kept = self.vanishing_for(zero, vanishing)?;
         for i in 0..parametric.len() {
             let g = parametric.get(i);
             let vanish = longer.first(before.members().len())?;
             let stand = with_condition(alloc, ring, nonzero, g)?;
             let polys = one_alone(alloc, ring)?;
-            let kept = self.vanishing_for(&vanish, vanishing)?;
-            all.push(self.child(BranchKind::Unit, vanish, stand, polys, kept))?;
             before.add(alloc, ring, g)?;
+            let (own, next) = self.vanishing_of_next(alloc, &vanish, &kept, before.members())?;
+            all.push(self.child(BranchKind::Unit, vanish, stand, polys, own))?;
+            kept = next;
         }
         Ok(())
     }

@@ -13,7 +13,7 @@ ghost use Rattle.cgs_split.specs.Heights.{heights_fall};
 ghost use Rattle.cgs_split.specs.Soundness.{IsGood};
 ghost use Rattle.cgs_split.specs.Trees.{own_entries, IsSoundNode};
 
-use crate::branch::{Branch, Vanishing};
+use crate::branch::{Branch, Vanishing, copy_of};
 use crate::kind::BranchKind;
 use cgs_basis::reduced_basis;
 use cgs_board::{Job, Outcome};
@@ -52,10 +52,7 @@ impl Job for Branch {
         let zero = self.conditions.zero.copy()?;
         let nonzero = self.conditions.nonzero.copy()?;
         let polys = self.polys.copy()?;
-        let vanishing = match &self.vanishing {
-            Some(kept) => Some(kept.copy()?),
-            None => None,
-        };
+        let vanishing = copy_of(&self.vanishing)?;
         Ok(self.child(self.kind, zero, nonzero, polys, vanishing))
     }
 

@@ -1,9 +1,9 @@
-use Rattle.std.proofs.Common.{Err, ◌≡◌, sym, ◌∙◌, subst}
+use Rattle.std.proofs.Common.{Err, sym, subst}
 use Rattle.cgs_divide.specs.Ending.{EndsAs}
 use Rattle.cgs_divide.proofs.EndingLemmas.{stops, passed_on}
 use Rattle.cgs_basis.specs.BasisRun.{basis_run}
 use Rattle.cgs_radical.specs.EmptinessRun.{contradiction_run}
-use Rattle.cgs_radical.proofs.TestLemmas.{product_part, contradiction_part}
+use Rattle.cgs_radical.proofs.TestLemmas.{product_part}
 use Rattle.cgs_radical.proofs.emptiness.test_empty_by.Goals as goal
 
 pub returns-in_err-q-clause-ends : goal.returns-in_err-q-clause-ends

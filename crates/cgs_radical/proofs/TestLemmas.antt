@@ -65,10 +65,6 @@ module _ (ring Y : Ring) (N ns : List (List Term)) (start : List Term) (y : Y �
   pub product_part : emptiness_run ring E N units ≡ from Y ns start
   product_part = ap (λ r. followed r (emptiness_from basis_run ring N)) kept ∙ parts
 
-  pub contradiction_part : (q : List Term) (last : ℕ) → products_remainder Y B ns start left ≡ ended q last
-      → emptiness_run ring E N units ≡ contradiction_run basis_run Y B q last
-  contradiction_part q last e = product_part ∙ ap (λ r. followed r (contradiction_run basis_run Y B)) e
-
 same_tests : (a b : Bool) → (a ≡ true → b ≡ true) → (b ≡ true → a ≡ true) → a ≡ b
 same_tests true true f g = refl
 same_tests true false f g = sym (f refl)

@@ -34,7 +34,7 @@ use Rattle.cgs_entry.proofs.OneLemmas.{one_special, one_special_total}
 -- ideals
 
 -- an ideal at a place of a list that holds the generator
-found_member : (ring : Ring) (F : List (List Term)) (g : List Term) → 0 < ring.modulus → IsOfRing ring g → FoundIn F g → IsMember ring F g
+pub found_member : (ring : Ring) (F : List (List Term)) (g : List Term) → 0 < ring.modulus → IsOfRing ring g → FoundIn F g → IsMember ring F g
 found_member ring F g pos h i = subst (λ f. IsMember ring F f) i.2 (generator_member ring F pos i.0 i.1 (subst (λ f. IsOfRing ring f) (sym i.2) h))
 
 module _ (ring : Ring) (a : List ℕ) (pos : 0 < ring.modulus) where
@@ -93,7 +93,7 @@ module _ (ring : Ring) (a : List ℕ) (field : IsField ring.modulus) (branch : C
     other_each ring (IsCanonical ring) G basis.monic.canonical,
   )
 
-  same_generators : SameIdeal ring G (F ++ E)
+  pub same_generators : SameIdeal ring G (F ++ E)
   same_generators = basis_generates ring (F ++ E) G field generators_ok basis.groebner
 
   -- each member of G is one of the two parts
@@ -122,7 +122,7 @@ module _ (ring : Ring) (a : List ℕ) (field : IsField ring.modulus) (branch : C
   in_parts : AllByRecursion (IsMember ring (other_members ring G ++ parametric_members ring G)) G
   in_parts = all_by_places (IsMember ring (other_members ring G ++ parametric_members ring G)) [] G part_at
 
-  generators_in_parts : (f : List Term) → IsMember ring (F ++ E) f → IsMember ring (other_members ring G ++ parametric_members ring G) f
+  pub generators_in_parts : (f : List Term) → IsMember ring (F ++ E) f → IsMember ring (other_members ring G ++ parametric_members ring G) f
   generators_in_parts f m = member_of_members ring G (other_members ring G ++ parametric_members ring G) pos in_parts f (same_generators.second f m)
 
   module _ (zeros : AllVanish ring a (parametric_members ring G)) where

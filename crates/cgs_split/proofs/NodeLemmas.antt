@@ -94,7 +94,7 @@ module _ (ring : Ring) (r : IsRing ring) (branch : Case) (ok : IsBranch ring bra
   coefficients_ok : AllByRecursion (IsParametric ring) (nonconstant (map (lc_x ring) M))
   coefficients_ok = nonconstant_each (IsParametric ring) (map (lc_x ring) M) (coefficients_parametric ring M dickson_ok)
 
-  H_ok : AllByRecursion (IsParametric ring) (coefficient_list ring M)
+  pub H_ok : AllByRecursion (IsParametric ring) (coefficient_list ring M)
   H_ok = each_with_all ring (IsParametric ring) [] (nonconstant (map (lc_x ring) M)) tt
       (all_weaker (IsParametric ring) (λ f. IsParametric ring (monic_of ring f)) (nonconstant (map (lc_x ring) M)) coefficients_ok
       (λ f p. monic_parametric ring f pos p))

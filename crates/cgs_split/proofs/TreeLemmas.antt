@@ -34,7 +34,7 @@ use Rattle.cgs_split.proofs.NodeLemmas.{monic_parametric, basis_of_same, childre
 
 -- lists of branches and entries
 
-entries_append : (ring : Ring) (a : List ℕ) (es fs : List Entry) → entries_at ring a (es ++ fs) ≡ entries_at ring a es + entries_at ring a fs
+pub entries_append : (ring : Ring) (a : List ℕ) (es fs : List Entry) → entries_at ring a (es ++ fs) ≡ entries_at ring a es + entries_at ring a fs
 entries_append ring a [] fs = omega arith
 entries_append ring a (e ∷ es) fs = omega (arith, entries_append ring a es fs, entries_first ring a e es, entries_first ring a e (es ++ fs))
 

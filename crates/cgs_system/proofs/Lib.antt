@@ -4,3 +4,8 @@ pub mod ExactNodeLemmas
 pub mod ExactTreeLemmas
 pub mod ExampleLemmas
 pub mod ComprehensiveLemmas
+pub mod JoiningLemmas
+pub mod ParametricLemmas
+pub mod KeptLemmas
+pub mod ProblemLemmas
+pub mod BehindLemmas

@@ -12,6 +12,12 @@ use Rattle.cgs_split.specs.Nodes.{children_of}
 use Rattle.cgs_system.specs.ExactList.{IsReducedBasisOf, IsExactNode, empty, solved, whole, divided, at_paths, AreExactTrees, none, tree}
 use Rattle.cgs_system.specs.Laws.{ExactListIsUnique}
 
+pub first_same : (x y : List ℕ × Case) (xs ys : List (List ℕ × Case)) → x ∷ xs ≡ y ∷ ys → x ≡ y
+first_same x y xs ys e = cc
+
+pub others_same : (x y : List ℕ × Case) (xs ys : List (List ℕ × Case)) → x ∷ xs ≡ y ∷ ys → xs ≡ ys
+others_same x y xs ys e = cc
+
 module _ (ring : Ring) (pos : 0 < ring.modulus) where
   basis_unique : (branch : Case) (G H : List (List Term)) → IsReducedBasisOf ring branch G → IsReducedBasisOf ring branch H → G ≡ H
   basis_unique branch G H g h = reduced_unique ring (branch.polys ++ branch.zero) G H pos g.reduced h.reduced g.ascending h.ascending
@@ -39,12 +45,6 @@ module _ (ring : Ring) (pos : 0 < ring.modulus) where
   node_unique branch path own mine children others (divided c k G g n) (whole d l h) = absurd (n (basis_unique branch G (one ring ∷ []) g h))
   node_unique branch path own mine children others (divided c k G g n) (divided d l H h m) =
       (refl, ap (λ K. children_of ring branch K (minimal_dickson ring (other_members ring K))) (basis_unique branch G H g h))
-
-  first_same : (x y : List ℕ × Case) (xs ys : List (List ℕ × Case)) → x ∷ xs ≡ y ∷ ys → x ≡ y
-  first_same x y xs ys e = cc
-
-  others_same : (x y : List ℕ × Case) (xs ys : List (List ℕ × Case)) → x ∷ xs ≡ y ∷ ys → xs ≡ ys
-  others_same x y xs ys e = cc
 
   -- the trees of some branches have one list of entries
   trees_unique : (bs cs : List (List ℕ × Case)) (es fs : List Entry) → bs ≡ cs → AreExactTrees ring bs es → AreExactTrees ring cs fs → es ≡ fs

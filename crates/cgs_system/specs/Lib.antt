@@ -1,3 +1,4 @@
 pub mod ExactList
+pub mod Joining
 pub mod Laws
 pub mod Examples

@@ -1,7 +1,7 @@
 //! What holds of all exact lists, and a worked one. The functions do nothing.
 
 ghost use Rattle.cgs_system.specs.Examples.{GapIsRefused, LineListIsExact, OtherOrderIsRefused, UntestedIsRefused};
-ghost use Rattle.cgs_system.specs.Laws.{ExactListIsComprehensive, ExactListIsUnique, TestedListIsExact, TestedListsAgree};
+ghost use Rattle.cgs_system.specs.Laws.{ExactListIsComprehensive, ExactListIsUnique, JoinedListIsComprehensive, JoinedListIsExact, TestedJoinIsExact, TestedListIsExact, TestedListsAgree};
 
 use cgs_split::tree_examples;
 
@@ -24,6 +24,23 @@ pub fn tested_list_is_exact()
 /// So two lists within different limits are the same, unless an entry of one of them is refused or untested.
 pub fn tested_lists_agree()
     ensures { TestedListsAgree }
+{}
+
+/// A comprehensive list stays one if each refused entry is replaced by a comprehensive list of the problem with the entry's conditions,
+/// behind the entry's path.
+pub fn joined_list_is_comprehensive()
+    ensures { JoinedListIsComprehensive }
+{}
+
+/// A list within limits becomes the exact one if its other entries are tested, and each refused one is replaced by the exact list of the
+/// problem with the entry's conditions, behind the entry's path.
+pub fn joined_list_is_exact()
+    ensures { JoinedListIsExact }
+{}
+
+/// So the list that is joined from runs within any limits is the exact one, and that of one run, unless an entry of it is refused or untested.
+pub fn tested_join_is_exact()
+    ensures { TestedJoinIsExact }
 {}
 
 /// The two entries of a*x - 1 modulo 7, and three lists that are not exact: one of the two, the two the other way round, and the two with

@@ -93,7 +93,7 @@ module _ (ring : Ring) (a : List ℕ) (field : IsField ring.modulus) (branch : C
     other_each ring (IsCanonical ring) G basis.monic.canonical,
   )
 
-  pub same_generators : SameIdeal ring G (F ++ E)
+  same_generators : SameIdeal ring G (F ++ E)
   same_generators = basis_generates ring (F ++ E) G field generators_ok basis.groebner
 
   -- each member of G is one of the two parts

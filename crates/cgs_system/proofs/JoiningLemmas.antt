@@ -7,7 +7,7 @@ use Rattle.cgs_poly.specs.Polynomial.{Term}
 use Rattle.cgs_point.specs.Points.{IsPoint}
 use Rattle.cgs_entry.specs.declared.entry.Entry.{Entry}
 use Rattle.cgs_entry.specs.Conditions.{is_in_region}
-use Rattle.cgs_entry.specs.Entries.{is_refused, entries_at, IsSound, IsComprehensive}
+use Rattle.cgs_entry.specs.Entries.{is_refused, entries_at, IsSound}
 use Rattle.cgs_entry.proofs.CoverLemmas.{entries_first}
 use Rattle.cgs_split.proofs.TreeLemmas.{entries_append}
 use Rattle.cgs_system.specs.Joining.{behind, joined, HasComprehensivePart}

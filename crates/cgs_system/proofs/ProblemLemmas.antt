@@ -7,7 +7,6 @@ use Rattle.cgs_field.proofs.PrimeLemmas.{modulus_field}
 use Rattle.cgs_poly.specs.Ring.{Ring}
 use Rattle.cgs_poly.specs.Polynomial.{Term, IsRing, IsOfRing, IsCanonical}
 use Rattle.cgs_poly.proofs.CanonicalLemmas.{canonical_of_ring}
-use Rattle.cgs_poly.specs.Monic.{monic_of}
 use Rattle.cgs_algebra.specs.Combination.{IsMember, SameIdeal}
 use Rattle.cgs_algebra.specs.Specialisation.{IsParametric}
 use Rattle.cgs_algebra.specs.Stability.{parametric_members, other_members}
@@ -15,7 +14,7 @@ use Rattle.cgs_algebra.proofs.DicksonLemmas.{other_each}
 use Rattle.cgs_algebra.proofs.MemberLemmas.{generators_inside, member_of_members}
 use Rattle.cgs_algebra.proofs.PlaceLemmas.{all_both}
 use Rattle.cgs_entry.specs.declared.entry.Entry.{Entry}
-use Rattle.cgs_entry.specs.Conditions.{with_member, with_members}
+use Rattle.cgs_entry.specs.Conditions.{with_member}
 use Rattle.cgs_entry.proofs.AddingLemmas.{all_members_added}
 use Rattle.cgs_dickson.specs.Dickson.{minimal_dickson, coefficient_list}
 use Rattle.cgs_split.specs.declared.kind.BranchKind.TheVariants.{Split}
@@ -24,7 +23,7 @@ use Rattle.cgs_split.specs.Cases.{Case}
 use Rattle.cgs_split.specs.Nodes.{unit_children, main_child, split_children}
 use Rattle.cgs_split.specs.Soundness.{IsBranch, HasBasis}
 use Rattle.cgs_split.specs.Trees.{root_case}
-use Rattle.cgs_split.proofs.IdealLemmas.{parts_ok, same_generators, generators_in_parts}
+use Rattle.cgs_split.proofs.IdealLemmas.{parts_ok, generators_in_parts}
 use Rattle.cgs_split.proofs.NodeLemmas.{H_ok, monic_parametric}
 use Rattle.cgs_split.proofs.NodeRunLemmas.{reduced_has_basis}
 use Rattle.cgs_split.proofs.ConditionLemmas.{each_with}

@@ -1,6 +1,7 @@
 //! What holds of all exact lists, and a worked one. The functions do nothing.
 
 ghost use Rattle.cgs_system.specs.Examples.{GapIsRefused, LineListIsExact, OtherOrderIsRefused, UntestedIsRefused};
+ghost use Rattle.cgs_system.specs.Examples.{OtherConditionsAreRefused, OtherPathIsRefused, PartIsJoined, PartLeftOutIsRefused};
 ghost use Rattle.cgs_system.specs.Laws.{ExactListIsComprehensive, ExactListIsUnique, JoinedListIsComprehensive, JoinedListIsExact, TestedJoinIsExact, TestedListIsExact, TestedListsAgree};
 
 use cgs_split::tree_examples;
@@ -50,6 +51,17 @@ pub fn line_list_is_exact()
     ensures gap { GapIsRefused }
     ensures other_order { OtherOrderIsRefused }
     ensures untested { UntestedIsRefused }
+{
+    tree_examples();
+}
+
+/// The list of a*x - 1 with six units, joined with the list where a is 0; and three lists that are joined wrongly: without that part, with
+/// the list under the conditions of the other entry in its place, and with the part behind another path.
+pub fn part_is_joined()
+    ensures joined { PartIsJoined }
+    ensures left_out { PartLeftOutIsRefused }
+    ensures other_conditions { OtherConditionsAreRefused }
+    ensures other_path { OtherPathIsRefused }
 {
     tree_examples();
 }

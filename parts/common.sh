@@ -1,7 +1,10 @@
 # shellcheck shell=sh
 # What the scripts of parts/ share: the program, what is said, and whether a list is whole.
 here=$(cd "$(dirname "$0")" && pwd -P) || exit 1
-CGS=${CGS:-$(dirname "$here")/cgs}
+if [ -z "${CGS:-}" ]; then
+    CGS=$(dirname "$here")/cgs
+    [ -x "$CGS" ] || CGS=cgs
+fi
 
 say() {
     printf 'parts/%s: %s\n' "${0##*/}" "$*" >&2

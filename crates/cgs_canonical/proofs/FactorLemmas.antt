@@ -8,7 +8,7 @@ use Rattle.cgs_exps.specs.Monomial.{degree}
 use Rattle.cgs_poly.specs.Polynomial.{Term, term, greatest_degree}
 use Rattle.cgs_list.specs.Results.{and_then}
 use Rattle.cgs_tokens.specs.Tokens.{is_word}
-use Rattle.cgs_problem.specs.Lexemes.{Lexeme, name, number, plus, minus, times, power}
+use Rattle.cgs_problem.specs.Lexemes.{Lexeme, name, number, plus, minus, times, power, opening, closing, equals}
 use Rattle.cgs_problem.specs.Sums.{Reader, product, follow, powered, place_of, times_power}
 use Rattle.cgs_canonical.specs.Printing.{power_text, powers_text}
 use Rattle.cgs_canonical.proofs.LexemeLemmas.{Says, Stops, IsName, says_nothing, says_append, times_says, power_says, decimal_says, name_says}
@@ -94,12 +94,18 @@ product_of_name reader t word (power ∷ name w ∷ lexemes) = refl
 product_of_name reader t word (power ∷ plus ∷ lexemes) = refl
 product_of_name reader t word (power ∷ minus ∷ lexemes) = refl
 product_of_name reader t word (power ∷ times ∷ lexemes) = refl
+product_of_name reader t word (power ∷ opening ∷ lexemes) = refl
+product_of_name reader t word (power ∷ closing ∷ lexemes) = refl
+product_of_name reader t word (power ∷ equals ∷ lexemes) = refl
 product_of_name reader t word (power ∷ power ∷ lexemes) = refl
 product_of_name reader t word (name w ∷ lexemes) = refl
 product_of_name reader t word (number n ∷ lexemes) = refl
 product_of_name reader t word (plus ∷ lexemes) = refl
 product_of_name reader t word (minus ∷ lexemes) = refl
 product_of_name reader t word (times ∷ lexemes) = refl
+product_of_name reader t word (opening ∷ lexemes) = refl
+product_of_name reader t word (closing ∷ lexemes) = refl
+product_of_name reader t word (equals ∷ lexemes) = refl
 
 -- no `^` comes first
 abbrev pub NoPower : List Lexeme → Type 0
@@ -127,6 +133,9 @@ plain_name reader t place (number n ∷ rest) h = refl
 plain_name reader t place (plus ∷ rest) h = refl
 plain_name reader t place (minus ∷ rest) h = refl
 plain_name reader t place (times ∷ rest) h = refl
+plain_name reader t place (opening ∷ rest) h = refl
+plain_name reader t place (closing ∷ rest) h = refl
+plain_name reader t place (equals ∷ rest) h = refl
 
 powered_reads : (reader : Reader) (t : Term) (place e : ℕ) (rest : List Lexeme) → e ≤ greatest_degree → degree t.exponents + e ≤ reader.most
     → powered reader t place (power ∷ number e ∷ rest) ≡ follow reader (raised t place e) rest

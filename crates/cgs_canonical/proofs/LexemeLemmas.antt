@@ -8,12 +8,13 @@ use Rattle.std.proofs.lemmas.Fmt.{decimal_is_IsNumeral, length-decimal-le}
 use Rattle.std.specs.List.{prefix_len}
 use Rattle.std.specs.Char.{is_ascii_digit, is_ascii_alphabetic, digit_value}
 use Rattle.std.specs.Str.Parse.{AllDigits, digits_value}
+use Rattle.cgs_tokens.specs.declared.token.Format.TheVariants.{One}
 use Rattle.cgs_tokens.specs.declared.token.Token.{Token}
 use Rattle.cgs_tokens.specs.declared.token.TokenKind.{TokenKind}
 use Rattle.cgs_tokens.specs.declared.token.TokenKind.TheVariants as kind
 use Rattle.cgs_tokens.specs.declared.token.TokenFault.{TokenFault}
 use Rattle.cgs_tokens.specs.declared.token.TokenFault.TheVariants.{Literal, LongName}
-use Rattle.cgs_tokens.specs.Tokens.{is_blank, is_word, spanned, at_most, tokens_from, token_at, name_at, number_at, sign_at, with_first}
+use Rattle.cgs_tokens.specs.Tokens.{is_blank, is_word, spanned, at_most, tokens_from, token_at, name_at, number_at, sign_in, with_first}
 use Rattle.cgs_tokens.proofs.ScanLemmas.{skips}
 use Rattle.cgs_problem.specs.declared.fault.TextKind.{TextKind}
 use Rattle.cgs_problem.specs.Lexemes.{Lexeme, name, number, plus, times, power, said, said_by, said_in, line_lexemes}
@@ -55,7 +56,7 @@ is_plain byte = cond (byte == 10) false (cond (byte == 13) false true)
 
 -- What the bytes after the front say, where the front was read.
 abbrev pub said_after : List ℕ → List ℕ → Result (List Lexeme) TextKind
-said_after front rest = said_in (front ++ rest) (tokens_from 0 (length front) rest)
+said_after front rest = said_in (front ++ rest) (tokens_from One 0 (length front) rest)
 
 abbrev pub with_lexeme : Lexeme → Result (List Lexeme) TextKind → Result (List Lexeme) TextKind
 with_lexeme l (Ok lexemes) = Ok (l ∷ lexemes)
@@ -105,14 +106,14 @@ pub first_said : (line : List ℕ) (t : Token) (read : Result (List Token) Token
 first_said line t (Ok tokens) = refl
 first_said line t (Err e) = refl
 
-tokens_after : (place : ℕ) (t : Token) (c : ℕ) (text rest : List ℕ) → is_blank c ≡ false → token_at place (c ∷ (text ++ rest)) ≡ Ok t
+tokens_after : (place : ℕ) (t : Token) (c : ℕ) (text rest : List ℕ) → is_blank c ≡ false → token_at One place (c ∷ (text ++ rest)) ≡ Ok t
     → t.end ≡ place + length (c ∷ text)
-    → tokens_from 0 place (c ∷ (text ++ rest)) ≡ with_first t (tokens_from 0 (place + length (c ∷ text)) rest)
+    → tokens_from One 0 place (c ∷ (text ++ rest)) ≡ with_first t (tokens_from One 0 (place + length (c ∷ text)) rest)
 unfolding tokens_from
 tokens_after place t c text rest b h e =
     let k : t.end - (place + 1) ≡ length text = omega arith in
-    let go : tokens_from (t.end - (place + 1)) (place + 1) (text ++ rest) ≡ tokens_from 0 (place + length (c ∷ text)) rest =
-    rw k (skips (length text) (place + 1) (text ++ rest) ∙ rw (drop_at text rest (length text) refl) (ap (λ n. tokens_from 0 n rest) (omega arith))) in
+    let go : tokens_from One (t.end - (place + 1)) (place + 1) (text ++ rest) ≡ tokens_from One 0 (place + length (c ∷ text)) rest =
+    rw k (skips One (length text) (place + 1) (text ++ rest) ∙ rw (drop_at text rest (length text) refl) (ap (λ n. tokens_from One 0 n rest) (omega arith))) in
     rw (b, h) (ap (with_first t) go)
 
 pub slice_is : (front text rest : List ℕ) → slice_range (front ++ (text ++ rest)) (length front) (length front + length text) ≡ text
@@ -121,28 +122,28 @@ slice_is front text rest =
     rw (n, drop_at front (text ++ rest) (length front) refl) (take_at text rest (length text) refl)
 
 token_said : (front : List ℕ) (k : TokenKind) (c : ℕ) (text rest : List ℕ) → is_blank c ≡ false
-    → token_at (length front) (c ∷ (text ++ rest)) ≡ Ok (spanned k (length front) (length (c ∷ text)))
+    → token_at One (length front) (c ∷ (text ++ rest)) ≡ Ok (spanned k (length front) (length (c ∷ text)))
     → said_after front (c ∷ (text ++ rest)) ≡ with_lexeme (said_by k (c ∷ text)) (said_after (front ++ c ∷ text) rest)
 token_said front k c text rest b h =
     let line : List ℕ = front ++ (c ∷ (text ++ rest)) in
     let t : Token = spanned k (length front) (length (c ∷ text)) in
-    let e : said_after front (c ∷ (text ++ rest)) ≡ with_lexeme (said line t) (said_in line (tokens_from 0 (length front + length (c ∷ text)) rest)) =
-    ap (said_in line) (tokens_after (length front) t c text rest b h refl) ∙ first_said line t (tokens_from 0 (length front + length (c ∷ text)) rest) in
+    let e : said_after front (c ∷ (text ++ rest)) ≡ with_lexeme (said line t) (said_in line (tokens_from One 0 (length front + length (c ∷ text)) rest)) =
+    ap (said_in line) (tokens_after (length front) t c text rest b h refl) ∙ first_said line t (tokens_from One 0 (length front + length (c ∷ text)) rest) in
     let w : said line t ≡ said_by k (c ∷ text) = ap (said_by k) (slice_is front (c ∷ text) rest) in
     let n : length front + length (c ∷ text) ≡ length (front ++ c ∷ text) = sym (length-append front (c ∷ text)) in
     let l : line ≡ (front ++ c ∷ text) ++ rest = sym (append_assoc front (c ∷ text) rest) in
-    e ∙ ap (λ m. with_lexeme m (said_in line (tokens_from 0 (length front + length (c ∷ text)) rest))) w
-    ∙ ap (λ m. with_lexeme (said_by k (c ∷ text)) (said_in line (tokens_from 0 m rest))) n
-    ∙ ap (λ m. with_lexeme (said_by k (c ∷ text)) (said_in m (tokens_from 0 (length (front ++ c ∷ text)) rest))) l
+    e ∙ ap (λ m. with_lexeme m (said_in line (tokens_from One 0 (length front + length (c ∷ text)) rest))) w
+    ∙ ap (λ m. with_lexeme (said_by k (c ∷ text)) (said_in line (tokens_from One 0 m rest))) n
+    ∙ ap (λ m. with_lexeme (said_by k (c ∷ text)) (said_in m (tokens_from One 0 (length (front ++ c ∷ text)) rest))) l
 
 token_says : (k : TokenKind) (c : ℕ) (text : List ℕ) → is_blank c ≡ false → Passes is_plain (c ∷ text)
-    → ((place : ℕ) (rest : List ℕ) → Stops is_word rest → token_at place (c ∷ (text ++ rest)) ≡ Ok (spanned k place (length (c ∷ text))))
+    → ((place : ℕ) (rest : List ℕ) → Stops is_word rest → token_at One place (c ∷ (text ++ rest)) ≡ Ok (spanned k place (length (c ∷ text))))
     → Says (c ∷ text) (said_by k (c ∷ text) ∷ [])
 token_says k c text b p h = record { plain = p; after = λ front rest s. token_said front k c text rest b (h (length front) rest s) }
 
 -- a sign before a text
 sign_says : (k : TokenKind) (c : ℕ) (text : List ℕ) (ls : List Lexeme) → is_blank c ≡ false → is_plain c ≡ true
-    → ((place : ℕ) (rest : List ℕ) → token_at place (c ∷ rest) ≡ Ok (spanned k place 1)) → Says text ls → Says (c ∷ text) (said_by k (c ∷ []) ∷ ls)
+    → ((place : ℕ) (rest : List ℕ) → token_at One place (c ∷ rest) ≡ Ok (spanned k place 1)) → Says text ls → Says (c ∷ text) (said_by k (c ∷ []) ∷ ls)
 sign_says k c text ls b p h s = record {
   plain = (p, s.plain);
   after = λ front rest t.
@@ -152,15 +153,15 @@ sign_says k c text ls b p h s = record {
 }
 
 pub times_says : (text : List ℕ) (ls : List Lexeme) → Says text ls → Says (42 ∷ text) (times ∷ ls)
-unfolding token_at sign_at
+unfolding token_at sign_in
 times_says text ls s = sign_says kind.Times 42 text ls refl refl (λ place rest. refl) s
 
 pub plus_says : (text : List ℕ) (ls : List Lexeme) → Says text ls → Says (43 ∷ text) (plus ∷ ls)
-unfolding token_at sign_at
+unfolding token_at sign_in
 plus_says text ls s = sign_says kind.Plus 43 text ls refl refl (λ place rest. refl) s
 
 pub power_says : (text : List ℕ) (ls : List Lexeme) → Says text ls → Says (94 ∷ text) (power ∷ ls)
-unfolding token_at sign_at
+unfolding token_at sign_in
 power_says text ls s = sign_says kind.Power 94 text ls refl refl (λ place rest. refl) s
 
 -- a space says nothing
@@ -171,8 +172,8 @@ space_says text ls s = record {
   after = λ front rest t.
       let n : length front + 1 ≡ length (front ++ 32 ∷ []) = sym (length-append front (32 ∷ [])) in
       let l : front ++ (32 ∷ (text ++ rest)) ≡ (front ++ 32 ∷ []) ++ (text ++ rest) = sym (append_assoc front (32 ∷ []) (text ++ rest)) in
-      ap (λ m. said_in (front ++ (32 ∷ (text ++ rest))) (tokens_from 0 m (text ++ rest))) n
-      ∙ ap (λ m. said_in m (tokens_from 0 (length (front ++ 32 ∷ [])) (text ++ rest))) l
+      ap (λ m. said_in (front ++ (32 ∷ (text ++ rest))) (tokens_from One 0 m (text ++ rest))) n
+      ∙ ap (λ m. said_in m (tokens_from One 0 (length (front ++ 32 ∷ [])) (text ++ rest))) l
       ∙ s.after (front ++ 32 ∷ []) rest t ∙ ap (λ f. with_lexemes ls (said_after f rest)) (append_assoc front (32 ∷ []) text);
 }
 
@@ -207,7 +208,7 @@ within : (limit n : ℕ) (t : Result Token TokenFault) (f : TokenFault) → n �
 within limit n t f le = let short : ltb limit n ≡ false = le-ltb _ _ le in rw short refl
 
 number_token : (place c : ℕ) (ds rest : List ℕ) → Passes is_ascii_digit (c ∷ ds) → length (c ∷ ds) ≤ 18 → Stops is_ascii_digit rest
-    → token_at place (c ∷ (ds ++ rest)) ≡ Ok (spanned kind.Number place (length (c ∷ ds)))
+    → token_at One place (c ∷ (ds ++ rest)) ≡ Ok (spanned kind.Number place (length (c ∷ ds)))
 unfolding token_at number_at
 number_token place c ds rest h short s =
     let token : ℕ → Result Token TokenFault = λ n. Ok (spanned kind.Number place n) in
@@ -243,7 +244,7 @@ pub record IsName (text : List ℕ) : Type 0 where
   pub short : length text ≤ 32
 
 name_token : (place c : ℕ) (text rest : List ℕ) → IsName (c ∷ text) → Stops is_word rest
-    → token_at place (c ∷ (text ++ rest)) ≡ Ok (spanned kind.Name place (length (c ∷ text)))
+    → token_at One place (c ∷ (text ++ rest)) ≡ Ok (spanned kind.Name place (length (c ∷ text)))
 unfolding token_at name_at
 name_token place c text rest h s =
     let token : ℕ → Result Token TokenFault = λ n. Ok (spanned kind.Name place n) in

@@ -1,16 +1,18 @@
 -- The names that a line says are names.
-use Rattle.std.proofs.Common.{◌≡◌, ℕ, zero, suc, ◌-◌, ◌+◌, ◌≤◌, Bool, true, false, cond, ◌==◌, List, [], ◌∷◌, ◌++◌, get_or, take, length, Result, Ok, Err, refl}
+use Rattle.std.proofs.Common.{◌≡◌, ℕ, zero, suc, ◌-◌, ◌+◌, ◌≤◌, Bool, true, false, cond, ◌==◌, List, [], ◌∷◌, ◌++◌, get_or, take, length, Some, None}
+use Rattle.std.proofs.Common.{Result, Ok, Err, refl}
 use Rattle.std.proofs.Common.{sym, ap, ◌∙◌, subst, append_assoc, arith, ltb, ltb-false, slice_range}
 use Rattle.std.specs.List.{AllByRecursion, prefix_len}
 use Rattle.std.specs.Char.{is_ascii_digit, is_ascii_alphabetic}
 use Rattle.std.proofs.lemmas.Bool.Decides.{nat_tests}
 use Rattle.std.proofs.lemmas.List.{drop_at, length-append, length-take}
 use Rattle.std.proofs.lemmas.List.Sums.{prefix_len-le-length}
+use Rattle.cgs_tokens.specs.declared.token.Format.TheVariants.{One}
 use Rattle.cgs_tokens.specs.declared.token.Token.{Token}
 use Rattle.cgs_tokens.specs.declared.token.TokenKind.TheVariants as kind
 use Rattle.cgs_tokens.specs.declared.token.TokenFault.{TokenFault}
-use Rattle.cgs_tokens.specs.declared.token.TokenFault.TheVariants.{Byte, Literal, LongName}
-use Rattle.cgs_tokens.specs.Tokens.{is_blank, is_word, spanned, tokens_from, token_at, name_at, number_at, sign_at, with_first, and_then}
+use Rattle.cgs_tokens.specs.declared.token.TokenFault.TheVariants.{Literal, LongName}
+use Rattle.cgs_tokens.specs.Tokens.{is_blank, is_word, spanned, tokens_from, token_at, name_at, number_at, sign_in, sign_at, with_first, and_then}
 use Rattle.cgs_problem.specs.declared.fault.TextKind.{TextKind}
 use Rattle.cgs_problem.specs.Lexemes.{Lexeme, name, said, said_in, line_lexemes}
 use Rattle.cgs_canonical.proofs.LexemeLemmas.{Passes, IsName, with_lexeme, first_said}
@@ -56,8 +58,8 @@ name_read b bytes letter short =
       short = omega arith;
     }
 
-token_named : (front : List ℕ) (b : ℕ) (bytes : List ℕ) → Holds (λ t. IsLexeme (said (front ++ b ∷ bytes) t)) (token_at (length front) (b ∷ bytes))
-unfolding token_at name_at number_at sign_at
+token_named : (front : List ℕ) (b : ℕ) (bytes : List ℕ) → Holds (λ t. IsLexeme (said (front ++ b ∷ bytes) t)) (token_at One (length front) (b ∷ bytes))
+unfolding token_at name_at number_at sign_in
 token_named front b bytes = first (is_ascii_alphabetic b) refl
   where
     line : List ℕ
@@ -79,20 +81,19 @@ token_named front b bytes = first (is_ascii_alphabetic b) refl
     numbered false = tt
 
     signed : (p m t w : Bool)
-        → good (cond p (Ok (spanned kind.Plus place 1))
-        (cond m (Ok (spanned kind.Minus place 1)) (cond t (Ok (spanned kind.Times place 1)) (cond w (Ok (spanned kind.Power place 1)) (Err (Byte place))))))
+        → good (sign_at place (cond p (Some kind.Plus) (cond m (Some kind.Minus) (cond t (Some kind.Times) (cond w (Some kind.Power) None)))))
     signed true m t w = tt
     signed false true t w = tt
     signed false false true w = tt
     signed false false false true = tt
     signed false false false false = tt
 
-    other : (t : Bool) → good (cond t (number_at place (b ∷ bytes)) (sign_at place b))
+    other : (t : Bool) → good (cond t (number_at place (b ∷ bytes)) (sign_at place (sign_in One b)))
     other true = numbered (ltb 18 (prefix_len is_ascii_digit (b ∷ bytes)))
     other false = signed (b == 43) (b == 45) (b == 42) (b == 94)
 
     first : (t : Bool) → is_ascii_alphabetic b ≡ t
-        → good (cond t (name_at place (b ∷ bytes)) (cond (is_ascii_digit b) (number_at place (b ∷ bytes)) (sign_at place b)))
+        → good (cond t (name_at place (b ∷ bytes)) (cond (is_ascii_digit b) (number_at place (b ∷ bytes)) (sign_at place (sign_in One b))))
     first true e = named (ltb 32 (prefix_len is_word (b ∷ bytes))) e refl
     first false e = other (is_ascii_digit b)
 
@@ -107,29 +108,29 @@ joined_named line (Ok t) f h k = subst (Holds (AllByRecursion IsLexeme)) (sym (f
     before (Err e) g = tt
 
 further : (front : List ℕ) (b : ℕ) (bytes : List ℕ) (k : ℕ)
-    → Holds (AllByRecursion IsLexeme) (said_in ((front ++ b ∷ []) ++ bytes) (tokens_from k (length (front ++ b ∷ [])) bytes))
-    → Holds (AllByRecursion IsLexeme) (said_in (front ++ b ∷ bytes) (tokens_from k (length front + 1) bytes))
+    → Holds (AllByRecursion IsLexeme) (said_in ((front ++ b ∷ []) ++ bytes) (tokens_from One k (length (front ++ b ∷ [])) bytes))
+    → Holds (AllByRecursion IsLexeme) (said_in (front ++ b ∷ bytes) (tokens_from One k (length front + 1) bytes))
 further front b bytes k h =
     let n : length (front ++ b ∷ []) ≡ length front + 1 = length-append front (b ∷ []) in
     let l : (front ++ b ∷ []) ++ bytes ≡ front ++ b ∷ bytes = append_assoc front (b ∷ []) bytes in
-    subst (Holds (AllByRecursion IsLexeme)) (ap (λ m. said_in ((front ++ b ∷ []) ++ bytes) (tokens_from k m bytes)) n
-    ∙ ap (λ m. said_in m (tokens_from k (length front + 1) bytes)) l) h
+    subst (Holds (AllByRecursion IsLexeme)) (ap (λ m. said_in ((front ++ b ∷ []) ++ bytes) (tokens_from One k m bytes)) n
+    ∙ ap (λ m. said_in m (tokens_from One k (length front + 1) bytes)) l) h
 
-tokens_named : (skip : ℕ) (front bytes : List ℕ) → Holds (AllByRecursion IsLexeme) (said_in (front ++ bytes) (tokens_from skip (length front) bytes))
+tokens_named : (skip : ℕ) (front bytes : List ℕ) → Holds (AllByRecursion IsLexeme) (said_in (front ++ bytes) (tokens_from One skip (length front) bytes))
 unfolding tokens_from
 tokens_named zero front [] = tt
 tokens_named (suc skip) front [] = tt
 tokens_named (suc skip) front (b ∷ bytes) = further front b bytes skip (tokens_named skip (front ++ b ∷ []) bytes)
 tokens_named zero front (b ∷ bytes) = step (is_blank b) (λ k. further front b bytes k (tokens_named k (front ++ b ∷ []) bytes))
   where
-    step : (t : Bool) → ((k : ℕ) → Holds (AllByRecursion IsLexeme) (said_in (front ++ b ∷ bytes) (tokens_from k (length front + 1) bytes)))
+    step : (t : Bool) → ((k : ℕ) → Holds (AllByRecursion IsLexeme) (said_in (front ++ b ∷ bytes) (tokens_from One k (length front + 1) bytes)))
         → Holds (AllByRecursion IsLexeme) (said_in (front ++ b ∷ bytes)
-        (cond t (tokens_from 0 (length front + 1) bytes)
-        (and_then (token_at (length front) (b ∷ bytes))
-        (λ token. with_first token (tokens_from (token.end - (length front + 1)) (length front + 1) bytes)))))
+        (cond t (tokens_from One 0 (length front + 1) bytes)
+        (and_then (token_at One (length front) (b ∷ bytes))
+        (λ token. with_first token (tokens_from One (token.end - (length front + 1)) (length front + 1) bytes)))))
     step true ih = ih 0
-    step false ih = joined_named (front ++ b ∷ bytes) (token_at (length front) (b ∷ bytes))
-        (λ token. tokens_from (token.end - (length front + 1)) (length front + 1) bytes) (token_named front b bytes) (λ t. ih (t.end - (length front + 1)))
+    step false ih = joined_named (front ++ b ∷ bytes) (token_at One (length front) (b ∷ bytes))
+        (λ token. tokens_from One (token.end - (length front + 1)) (length front + 1) bytes) (token_named front b bytes) (λ t. ih (t.end - (length front + 1)))
 
 -- The names that a line says are names.
 pub lexemes_named : (line : List ℕ) → Holds (AllByRecursion IsLexeme) (line_lexemes line)

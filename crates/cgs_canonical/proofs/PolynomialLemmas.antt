@@ -9,7 +9,7 @@ use Rattle.cgs_poly.specs.Ring.{Ring}
 use Rattle.cgs_poly.specs.Polynomial.{Term, term, places, canonical, IsCanonical, greatest_degree}
 use Rattle.cgs_poly.proofs.CanonicalLemmas.{canonical_itself}
 use Rattle.cgs_list.specs.Results.{and_then}
-use Rattle.cgs_problem.specs.Lexemes.{Lexeme, name, number, plus, minus, times, power}
+use Rattle.cgs_problem.specs.Lexemes.{Lexeme, name, number, plus, minus, times, power, opening, closing, equals}
 use Rattle.cgs_problem.specs.Sums.{Reader, product, follow, one, with_term, terms_said, polynomial_said}
 use Rattle.cgs_canonical.specs.Printing.{term_text, polynomial_text}
 use Rattle.cgs_canonical.proofs.LexemeLemmas.{Says, Stops, IsName, says_nothing, says_append, plus_says, decimal_says}
@@ -68,6 +68,9 @@ no_sign reader (plus ∷ lexemes) h = absurd h
 no_sign reader (minus ∷ lexemes) h = absurd h
 no_sign reader (times ∷ lexemes) h = absurd h
 no_sign reader (power ∷ lexemes) h = absurd h
+no_sign reader (opening ∷ lexemes) h = absurd h
+no_sign reader (closing ∷ lexemes) h = absurd h
+no_sign reader (equals ∷ lexemes) h = absurd h
 
 nothing_reads : (reader : Reader) → 0 < reader.ring.modulus → terms_said reader (number 0 ∷ []) ≡ Ok (term 0 (replicate (places reader.ring) 0) ∷ [])
 unfolding follow

@@ -8,7 +8,7 @@ use Rattle.cgs_list.proofs.ListLemmas.{all_append}
 use Rattle.cgs_exps.specs.Monomial.{degree}
 use Rattle.cgs_poly.specs.Ring.{Ring}
 use Rattle.cgs_poly.specs.Polynomial.{Term, term, places, greatest_degree}
-use Rattle.cgs_problem.specs.Lexemes.{Lexeme, name, number, plus, minus, times, power}
+use Rattle.cgs_problem.specs.Lexemes.{Lexeme, name, number, plus, minus, times, power, opening, closing, equals}
 use Rattle.cgs_problem.specs.Sums.{Reader, product, follow, one}
 use Rattle.cgs_canonical.specs.Printing.{factors_text, term_text, monomial_text}
 use Rattle.cgs_canonical.proofs.LexemeLemmas.{Says, IsName, says_nothing, says_append, decimal_says}
@@ -86,6 +86,9 @@ starts_append (plus ∷ a) b h = absurd h
 starts_append (minus ∷ a) b h = absurd h
 starts_append (times ∷ a) b h = absurd h
 starts_append (power ∷ a) b h = absurd h
+starts_append (opening ∷ a) b h = absurd h
+starts_append (closing ∷ a) b h = absurd h
+starts_append (equals ∷ a) b h = absurd h
 
 powers_start : (names : List (List ℕ)) (exponents : List ℕ) → AllByRecursion Starts (powers_said names exponents)
 powers_start [] exponents = tt

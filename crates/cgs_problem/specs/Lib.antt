@@ -6,3 +6,5 @@ pub mod Lines
 pub mod Sums
 pub mod Drafts
 pub mod Reading
+pub mod Values
+pub mod Expressions

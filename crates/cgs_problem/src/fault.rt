@@ -37,6 +37,12 @@ pub enum TextKind {
     Degree,
     /// The text has no line `end`.
     End,
+    /// A format other than the first and the second.
+    Format,
+    /// More work than the limit, to multiply out what a text of the second format says.
+    Large,
+    /// Parentheses within more than 64 others.
+    Nested,
 }
 
 impl TextKind {
@@ -60,6 +66,9 @@ impl TextKind {
             TextKind::Exponent => b"exponent",
             TextKind::Degree => b"degree",
             TextKind::End => b"end",
+            TextKind::Format => b"format",
+            TextKind::Large => b"large",
+            TextKind::Nested => b"nested",
         }
     }
 }

@@ -2,7 +2,7 @@
 use Rattle.std.proofs.Common.{◌≡◌, ℕ, List, [], ◌∷◌, Result, Ok, Err, refl}
 use Rattle.cgs_list.specs.Results.{and_then, mapped}
 use Rattle.cgs_poly.specs.Polynomial.{Term}
-use Rattle.cgs_tokens.specs.Lexemes.{Lexeme, name, number, plus, minus, times, power}
+use Rattle.cgs_tokens.specs.Lexemes.{Lexeme, name, number, plus, minus, times, power, opening, closing, equals}
 use Rattle.cgs_problem.specs.declared.fault.TextKind.{TextKind}
 use Rattle.cgs_problem.specs.declared.fault.TextKind.TheVariants as fault
 use Rattle.cgs_problem.specs.Sums.{Reader, product, follow, place_of, exponent_of, times_power}
@@ -44,6 +44,9 @@ module _ (reader : Reader) (t : Term) where
   by_factor (minus ∷ rest) = refl
   by_factor (times ∷ rest) = refl
   by_factor (power ∷ rest) = refl
+  by_factor (opening ∷ rest) = refl
+  by_factor (closing ∷ rest) = refl
+  by_factor (equals ∷ rest) = refl
   by_factor (name word ∷ []) = alone (place_of reader word) []
   by_factor (name word ∷ power ∷ []) = no_exponent (place_of reader word)
   by_factor (name word ∷ power ∷ number n ∷ rest) = to_exponent (place_of reader word) (exponent_of n) rest
@@ -51,9 +54,15 @@ module _ (reader : Reader) (t : Term) where
   by_factor (name word ∷ power ∷ plus ∷ rest) = no_exponent (place_of reader word)
   by_factor (name word ∷ power ∷ minus ∷ rest) = no_exponent (place_of reader word)
   by_factor (name word ∷ power ∷ times ∷ rest) = no_exponent (place_of reader word)
+  by_factor (name word ∷ power ∷ opening ∷ rest) = no_exponent (place_of reader word)
+  by_factor (name word ∷ power ∷ closing ∷ rest) = no_exponent (place_of reader word)
+  by_factor (name word ∷ power ∷ equals ∷ rest) = no_exponent (place_of reader word)
   by_factor (name word ∷ power ∷ power ∷ rest) = no_exponent (place_of reader word)
   by_factor (name word ∷ name w ∷ rest) = alone (place_of reader word) (name w ∷ rest)
   by_factor (name word ∷ number n ∷ rest) = alone (place_of reader word) (number n ∷ rest)
   by_factor (name word ∷ plus ∷ rest) = alone (place_of reader word) (plus ∷ rest)
   by_factor (name word ∷ minus ∷ rest) = alone (place_of reader word) (minus ∷ rest)
   by_factor (name word ∷ times ∷ rest) = alone (place_of reader word) (times ∷ rest)
+  by_factor (name word ∷ opening ∷ rest) = alone (place_of reader word) (opening ∷ rest)
+  by_factor (name word ∷ closing ∷ rest) = alone (place_of reader word) (closing ∷ rest)
+  by_factor (name word ∷ equals ∷ rest) = alone (place_of reader word) (equals ∷ rest)

@@ -11,7 +11,7 @@ use Rattle.std.specs.Cmp.Lexicographic.{slice_cmp}
 use Rattle.std.specs.Prelude.{bytes_eq}
 use Rattle.std.specs.List.{AllByRecursion, IsDistinct, list_any}
 use Rattle.cgs_list.specs.Results.{and_then}
-use Rattle.cgs_tokens.specs.Lexemes.{Lexeme, name, number, plus, minus, times, power}
+use Rattle.cgs_tokens.specs.Lexemes.{Lexeme, name, number, plus, minus, times, power, opening, closing, equals}
 use Rattle.cgs_problem.specs.declared.fault.TextKind.{TextKind}
 use Rattle.cgs_problem.specs.declared.fault.TextKind.TheVariants as fault
 use Rattle.cgs_problem.specs.Drafts.{names_said, counted}
@@ -82,6 +82,9 @@ said_distinct others front (plus ∷ lexemes) names e h = absurd (cc)
 said_distinct others front (minus ∷ lexemes) names e h = absurd (cc)
 said_distinct others front (times ∷ lexemes) names e h = absurd (cc)
 said_distinct others front (power ∷ lexemes) names e h = absurd (cc)
+said_distinct others front (opening ∷ lexemes) names e h = absurd (cc)
+said_distinct others front (closing ∷ lexemes) names e h = absurd (cc)
+said_distinct others front (equals ∷ lexemes) names e h = absurd (cc)
 said_distinct others front (name word ∷ lexemes) names e h = step (said_distinct others (front ++ word ∷ []) lexemes names) (given others front word) refl e
   where
     step : (names_said others (front ++ word ∷ []) lexemes ≡ Ok names → IsDistinct bytes_eq ((front ++ word ∷ []) ++ others)

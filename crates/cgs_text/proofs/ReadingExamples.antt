@@ -4,7 +4,7 @@ use Rattle.std.specs.Prelude.{codes}
 use Rattle.cgs_order.specs.declared.kind.Kind.TheVariants.{GrevLex}
 use Rattle.cgs_order.specs.TermOrder.{key, compared}
 use Rattle.cgs_poly.specs.Polynomial.{term}
-use Rattle.cgs_tokens.specs.Tokens.{tokens_from, token_at, name_at, number_at, sign_at}
+use Rattle.cgs_tokens.specs.Tokens.{tokens_from, token_at, name_at, number_at, sign_in}
 use Rattle.cgs_problem.specs.declared.problem.Problem.{Problem}
 use Rattle.cgs_problem.specs.declared.fault.TextFault.{TextFault}
 use Rattle.cgs_problem.specs.declared.fault.TextKind.{TextKind}
@@ -19,42 +19,42 @@ at line kind = Err (record { line = line; kind = kind })
 -- an exponent above the limit, and products whose degrees pass it
 
 pub exponent : problem_spelled (codes "field 7\nparameters\nvariables x\norder lex\npoly x^32768\nend\n") ≡ at 5 fault.Exponent
-unfolding read_from tokens_from token_at name_at number_at sign_at product
+unfolding read_from tokens_from token_at name_at number_at sign_in product
 exponent = refl
 
 pub degree : problem_spelled (codes "field 7\nparameters\nvariables x\norder lex\npoly x^32767*x\nend\n") ≡ at 5 fault.Degree
-unfolding read_from tokens_from token_at name_at number_at sign_at product
+unfolding read_from tokens_from token_at name_at number_at sign_in product
 degree = refl
 
 pub thesis_degree : problem_spelled (codes "field 7\nparameters\nvariables x\norder lex\nthesis x^32767\nend\n") ≡ at 5 fault.Degree
-unfolding read_from tokens_from token_at name_at number_at sign_at product
+unfolding read_from tokens_from token_at name_at number_at sign_in product
 thesis_degree = refl
 
 -- a degree that is passed comes before a fault of the next token, and after one of this token
 pub degree_first : problem_spelled (codes "field 7\nparameters\nvariables x\norder lex\npoly x^32767*x x\nend\n") ≡ at 5 fault.Degree
-unfolding read_from tokens_from token_at name_at number_at sign_at product
+unfolding read_from tokens_from token_at name_at number_at sign_in product
 degree_first = refl
 
 pub exponent_first : problem_spelled (codes "field 7\nparameters\nvariables x\norder lex\npoly x^32767*x^+\nend\n") ≡ at 5 fault.Syntax
-unfolding read_from tokens_from token_at name_at number_at sign_at product
+unfolding read_from tokens_from token_at name_at number_at sign_in product
 exponent_first = refl
 
 -- faults of the header and of tokens
 
 pub no_modulus : problem_spelled (codes "field 9\nend\n") ≡ at 1 fault.Field
-unfolding read_from tokens_from token_at name_at number_at sign_at product
+unfolding read_from tokens_from token_at name_at number_at sign_in product
 no_modulus = refl
 
 pub no_end : problem_spelled (codes "field 7\nparameters a\nvariables x\norder lex\npoly a*x-1\n") ≡ at 6 fault.End
-unfolding read_from tokens_from token_at name_at number_at sign_at product
+unfolding read_from tokens_from token_at name_at number_at sign_in product
 no_end = refl
 
 pub unknown : problem_spelled (codes "field 7\nparameters a\nvariables x\norder lex\npoly a*z-1\nend\n") ≡ at 5 fault.Unknown
-unfolding read_from tokens_from token_at name_at number_at sign_at product
+unfolding read_from tokens_from token_at name_at number_at sign_in product
 unknown = refl
 
 pub literal : problem_spelled (codes "field 7\nparameters a\nvariables x\norder lex\npoly 1000000000000000000\nend\n") ≡ at 5 fault.Literal
-unfolding read_from tokens_from token_at name_at number_at sign_at product
+unfolding read_from tokens_from token_at name_at number_at sign_in product
 literal = refl
 
 pub empty : problem_spelled [] ≡ at 1 fault.End
@@ -74,5 +74,5 @@ pub accepted : problem_spelled
       thesis = None;
       points = [];
     })
-unfolding read_from tokens_from token_at name_at number_at sign_at product key compared
+unfolding read_from tokens_from token_at name_at number_at sign_in product key compared
 accepted = refl

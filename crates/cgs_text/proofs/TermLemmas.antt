@@ -11,7 +11,7 @@ use Rattle.cgs_poly.specs.Draft.{HaveLength}
 use Rattle.cgs_poly.specs.Polynomial.{Term, term, places, IsRing}
 use Rattle.cgs_tokens.specs.declared.lexeme.Lexeme.{Lexeme as Read}
 use Rattle.cgs_tokens.specs.declared.lexeme.Lexeme.TheVariants as read
-use Rattle.cgs_tokens.specs.Lexemes.{Lexeme, name, number, plus, minus, times, power, seen}
+use Rattle.cgs_tokens.specs.Lexemes.{Lexeme, name, number, plus, minus, times, power, opening, closing, equals, seen}
 use Rattle.cgs_problem.specs.declared.fault.TextKind.{TextKind}
 use Rattle.cgs_problem.specs.declared.fault.TextKind.TheVariants as fault
 use Rattle.cgs_problem.specs.Sums.{Reader, product, follow, with_term, terms_said}
@@ -77,6 +77,9 @@ module _ (reader : Reader) (front : List Term) (t : Term) (after : List Lexeme) 
   begins (number n) c others e k = absurd (cc)
   begins times c others e k = absurd (cc)
   begins power c others e k = absurd (cc)
+  begins opening c others e k = absurd (cc)
+  begins closing c others e k = absurd (cc)
+  begins equals c others e k = absurd (cc)
 
   -- no other token may follow
   pub cannot_follow : (sign : Read) (others : List Lexeme) → after ≡ seen sign ∷ others → (sign ≡ read.Times → ⊥)
@@ -85,6 +88,9 @@ module _ (reader : Reader) (front : List Term) (t : Term) (after : List Lexeme) 
   cannot_follow (read.Name word) others e other k = sym (next_is (Err fault.Syntax) (rw e refl))
   cannot_follow (read.Number n) others e other k = sym (next_is (Err fault.Syntax) (rw e refl))
   cannot_follow read.Power others e other k = sym (next_is (Err fault.Syntax) (rw e refl))
+  cannot_follow read.Open others e other k = sym (next_is (Err fault.Syntax) (rw e refl))
+  cannot_follow read.Close others e other k = sym (next_is (Err fault.Syntax) (rw e refl))
+  cannot_follow read.Equal others e other k = sym (next_is (Err fault.Syntax) (rw e refl))
   cannot_follow read.Times others e other k = absurd (other refl)
   cannot_follow read.Plus others e other k = absurd (cc)
   cannot_follow read.Minus others e other k = absurd (cc)
@@ -129,6 +135,9 @@ signed_below ring c (name word) h e = absurd (cc)
 signed_below ring c (number n) h e = absurd (cc)
 signed_below ring c times h e = absurd (cc)
 signed_below ring c power h e = absurd (cc)
+signed_below ring c opening h e = absurd (cc)
+signed_below ring c closing h e = absurd (cc)
+signed_below ring c equals h e = absurd (cc)
 
 -- gathering
 

@@ -14,7 +14,7 @@ use crate::lines::is_passed_over;
 use crate::refusal::{LineRefused, TextRefused};
 use cgs_field::Modulus;
 use cgs_problem::{NameList, Problem, TextFault, TextKind};
-use cgs_tokens::{Lexeme, Line, tokens};
+use cgs_tokens::{Format, Lexeme, Line, tokens};
 use std::alloc::Global;
 
 /// What the lines so far have said, by the line that has to come.
@@ -48,8 +48,8 @@ impl Progress {
         if let Progress::Ended(_) = self {
             return Err(LineRefused::Kind(TextKind::After));
         }
-        let list = tokens(alloc, line)?;
-        self.take_lexemes(alloc, Line::new(line, list.as_slice()))
+        let list = tokens(alloc, line, Format::One)?;
+        self.take_lexemes(alloc, Line::new(line, list.as_slice(), Format::One))
     }
 
     fn take_lexemes(self, alloc: Global, line: Line) -> Result<Progress, LineRefused>

@@ -4,6 +4,7 @@ use Rattle.std.proofs.Common.{◌∙◌, append_assoc, arith, add-zero}
 use Rattle.std.proofs.lemmas.List.{append-nil, drop_more, drop_all, drop-drop}
 use Rattle.cgs_list.specs.Results.{mapped, Answers}
 use Rattle.cgs_tokens.specs.declared.token.Token.{Token}
+use Rattle.cgs_tokens.specs.declared.token.Format.{Format}
 use Rattle.cgs_tokens.specs.declared.token.TokenFault.{TokenFault}
 use Rattle.cgs_tokens.specs.Tokens.{is_blank, tokens_from, token_at, with_first, offence_of}
 use Rattle.cgs_tokens.specs.declared.token.TokenFault.TheVariants.{Byte, Literal, LongName, OutOfMemory}
@@ -18,44 +19,46 @@ regroup front t (Ok tokens) = ap (λ (ts : List Token). Ok ts) (sym (append_asso
 regroup front t (Err fault) = refl
 
 -- what is within a token is passed over
-pub skips : (k place : ℕ) (bytes : List ℕ) → tokens_from k place bytes ≡ tokens_from 0 (place + k) (drop k bytes)
+pub skips : (format : Format) (k place : ℕ) (bytes : List ℕ) → tokens_from format k place bytes ≡ tokens_from format 0 (place + k) (drop k bytes)
 unfolding tokens_from
-skips zero place [] = refl
-skips (suc k) place [] = refl
-skips zero place (b ∷ bytes) = ap (λ n. tokens_from 0 n (b ∷ bytes)) (sym (add-zero place))
-skips (suc k) place (b ∷ bytes) = skips k (place + 1) bytes ∙ ap (λ n. tokens_from 0 n (drop k bytes)) (omega arith)
+skips format zero place [] = refl
+skips format (suc k) place [] = refl
+skips format zero place (b ∷ bytes) = ap (λ n. tokens_from format 0 n (b ∷ bytes)) (sym (add-zero place))
+skips format (suc k) place (b ∷ bytes) = skips format k (place + 1) bytes ∙ ap (λ n. tokens_from format 0 n (drop k bytes)) (omega arith)
 
-pub blank : (front : List Token) (line : List ℕ) (i : ℕ) (total : Result (List Token) TokenFault) → i < length line → is_blank (get_or line i 0) ≡ true
-    → with_front front (tokens_from 0 i (drop i line)) ≡ total → with_front front (tokens_from 0 (i + 1) (drop (i + 1) line)) ≡ total
+pub blank : (format : Format) (front : List Token) (line : List ℕ) (i : ℕ) (total : Result (List Token) TokenFault) → i < length line
+    → is_blank (get_or line i 0) ≡ true
+    → with_front front (tokens_from format 0 i (drop i line)) ≡ total → with_front front (tokens_from format 0 (i + 1) (drop (i + 1) line)) ≡ total
 unfolding tokens_from
-blank front line i total lt h so_far =
-    let one : with_front front (tokens_from 0 i (drop i line)) ≡ with_front front (tokens_from 0 (i + 1) (drop (i + 1) line)) =
+blank format front line i total lt h so_far =
+    let one : with_front front (tokens_from format 0 i (drop i line)) ≡ with_front front (tokens_from format 0 (i + 1) (drop (i + 1) line)) =
     rw (drop_more line i 0 lt, h) refl in
     sym one ∙ so_far
 
-pub read : (front : List Token) (line : List ℕ) (i : ℕ) (t : Token) (total : Result (List Token) TokenFault) → i < length line
+pub read : (format : Format) (front : List Token) (line : List ℕ) (i : ℕ) (t : Token) (total : Result (List Token) TokenFault) → i < length line
     → is_blank (get_or line i 0) ≡ false
-    → Ok t ≡ token_at i (drop i line) → i < t.end
-    → with_front front (tokens_from 0 i (drop i line)) ≡ total → with_front (front ++ t ∷ []) (tokens_from 0 t.end (drop t.end line)) ≡ total
+    → Ok t ≡ token_at format i (drop i line) → i < t.end
+    → with_front front (tokens_from format 0 i (drop i line)) ≡ total → with_front (front ++ t ∷ []) (tokens_from format 0 t.end (drop t.end line)) ≡ total
 unfolding tokens_from
-read front line i t total lt h e more so_far =
+read format front line i t total lt h e more so_far =
     let cells : drop i line ≡ get_or line i 0 ∷ drop (i + 1) line = drop_more line i 0 lt in
-    let e' : token_at i (get_or line i 0 ∷ drop (i + 1) line) ≡ Ok t = sym (e ∙ ap (token_at i) cells) in
+    let e' : token_at format i (get_or line i 0 ∷ drop (i + 1) line) ≡ Ok t = sym (e ∙ ap (token_at format i) cells) in
     let end : (i + 1) + (t.end - (i + 1)) ≡ t.end = omega arith in
-    let rest : tokens_from (t.end - (i + 1)) (i + 1) (drop (i + 1) line) ≡ tokens_from 0 t.end (drop t.end line) =
-    skips (t.end - (i + 1)) (i + 1) (drop (i + 1) line) ∙ rw (drop-drop (t.end - (i + 1)) (i + 1) line, end) refl in
-    let one : with_front front (tokens_from 0 i (drop i line)) ≡ with_front (front ++ t ∷ []) (tokens_from 0 t.end (drop t.end line)) =
-    rw (cells, h, e', rest) (regroup front t (tokens_from 0 t.end (drop t.end line))) in
+    let rest : tokens_from format (t.end - (i + 1)) (i + 1) (drop (i + 1) line) ≡ tokens_from format 0 t.end (drop t.end line) =
+    skips format (t.end - (i + 1)) (i + 1) (drop (i + 1) line) ∙ rw (drop-drop (t.end - (i + 1)) (i + 1) line, end) refl in
+    let one : with_front front (tokens_from format 0 i (drop i line)) ≡ with_front (front ++ t ∷ []) (tokens_from format 0 t.end (drop t.end line)) =
+    rw (cells, h, e', rest) (regroup front t (tokens_from format 0 t.end (drop t.end line))) in
     sym one ∙ so_far
 
-pub offends : (front : List Token) (line : List ℕ) (i : ℕ) (f : TokenFault) (total : Result (List Token) TokenFault) → i < length line
+pub offends : (format : Format) (front : List Token) (line : List ℕ) (i : ℕ) (f : TokenFault) (total : Result (List Token) TokenFault) → i < length line
     → is_blank (get_or line i 0) ≡ false
-    → Err f ≡ token_at i (drop i line) → with_front front (tokens_from 0 i (drop i line)) ≡ total → Answers (λ (ts : List Token). ts) offence_of (Err f) total
+    → Err f ≡ token_at format i (drop i line) → with_front front (tokens_from format 0 i (drop i line)) ≡ total
+    → Answers (λ (ts : List Token). ts) offence_of (Err f) total
 unfolding tokens_from
-offends front line i f total lt h e so_far =
+offends format front line i f total lt h e so_far =
     let cells : drop i line ≡ get_or line i 0 ∷ drop (i + 1) line = drop_more line i 0 lt in
-    let e' : token_at i (get_or line i 0 ∷ drop (i + 1) line) ≡ Err f = sym (e ∙ ap (token_at i) cells) in
-    let one : with_front front (tokens_from 0 i (drop i line)) ≡ Err f = rw (cells, h, e') refl in
+    let e' : token_at format i (get_or line i 0 ∷ drop (i + 1) line) ≡ Err f = sym (e ∙ ap (token_at format i) cells) in
+    let one : with_front front (tokens_from format 0 i (drop i line)) ≡ Err f = rw (cells, h, e') refl in
     told f total (sym so_far ∙ one)
   where
     told : (f : TokenFault) (total : Result (List Token) TokenFault) → total ≡ Err f → Answers (λ (ts : List Token). ts) offence_of (Err f) total
@@ -64,9 +67,10 @@ offends front line i f total lt h e so_far =
     told (LongName p) total e = e
     told OutOfMemory total e = tt
 
-pub is_done : (front : List Token) (line : List ℕ) (i : ℕ) (total : Result (List Token) TokenFault) → length line ≤ i
-    → with_front front (tokens_from 0 i (drop i line)) ≡ total → total ≡ Ok front
+pub is_done : (format : Format) (front : List Token) (line : List ℕ) (i : ℕ) (total : Result (List Token) TokenFault) → length line ≤ i
+    → with_front front (tokens_from format 0 i (drop i line)) ≡ total → total ≡ Ok front
 unfolding tokens_from
-is_done front line i total le so_far =
-    let one : with_front front (tokens_from 0 i (drop i line)) ≡ Ok front = rw (drop_all i line le) (ap (λ (ts : List Token). Ok ts) (append-nil front)) in
+is_done format front line i total le so_far =
+    let one : with_front front (tokens_from format 0 i (drop i line)) ≡ Ok front = rw (drop_all i line le) (ap (λ (ts : List Token). Ok ts)
+    (append-nil front)) in
     sym so_far ∙ one

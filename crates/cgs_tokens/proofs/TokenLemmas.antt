@@ -1,5 +1,6 @@
 -- The tokens that are read are slices of the line.
-use Rattle.std.proofs.Common.{◌≡◌, ℕ, zero, suc, ◌+◌, ◌-◌, ◌<◌, ◌≤◌, Bool, true, false, cond, List, [], ◌∷◌, take, drop, length, Result, Ok, Err, refl, sym, ap}
+use Rattle.std.proofs.Common.{◌≡◌, ℕ, zero, suc, ◌+◌, ◌-◌, ◌<◌, ◌≤◌, Bool, true, false, cond, List, [], ◌∷◌, take, drop, length, Option, Some, None, Result}
+use Rattle.std.proofs.Common.{Ok, Err, IfSome, refl, sym, ap}
 use Rattle.std.proofs.Common.{◌∙◌, subst, arith, ltb, eqb}
 use Rattle.std.proofs.lemmas.Bool.{ltb-false}
 use Rattle.std.proofs.lemmas.Bool.Decides.{nat_tests}
@@ -9,12 +10,15 @@ use Rattle.std.proofs.lemmas.List.Folds.{length-prefix_len}
 use Rattle.std.specs.List.{prefix_len}
 use Rattle.std.specs.Char.{is_ascii_digit, is_ascii_alphabetic, digit_value}
 use Rattle.std.specs.Str.Parse.{AllDigits}
+use Rattle.cgs_tokens.specs.declared.token.Format.{Format}
+use Rattle.cgs_tokens.specs.declared.token.Format.TheVariants.{One, Two}
 use Rattle.cgs_tokens.specs.declared.token.Token.{Token}
 use Rattle.cgs_tokens.specs.declared.token.TokenKind.{TokenKind}
 use Rattle.cgs_tokens.specs.declared.token.TokenKind.TheVariants as kind
 use Rattle.cgs_tokens.specs.declared.token.TokenFault.{TokenFault}
-use Rattle.cgs_tokens.specs.declared.token.TokenFault.TheVariants.{Byte, Literal, LongName}
-use Rattle.cgs_tokens.specs.Tokens.{is_blank, is_word, spanned, at_most, tokens_from, tokens_of, token_at, name_at, number_at, sign_at, with_first, and_then}
+use Rattle.cgs_tokens.specs.declared.token.TokenFault.TheVariants.{Literal, LongName}
+use Rattle.cgs_tokens.specs.Tokens.{is_blank, is_word, spanned, at_most, tokens_from, tokens_of, token_at, name_at, number_at, bracket_in, sign_in, sign_at}
+use Rattle.cgs_tokens.specs.Tokens.{with_first, and_then}
 use Rattle.cgs_tokens.specs.Lexemes.{IsToken, IsText, AreTokens}
 
 digit_is : (c : ℕ) → is_ascii_digit c ≡ true → digit_value c < 10
@@ -67,52 +71,52 @@ abbrev IsSign : TokenKind → Type 0
 IsSign kind.Number = ⊥
 IsSign k = Unit {0}
 
-sign_spans : (line : List ℕ) (k : TokenKind) (place : ℕ) (t : Token) → IsSign k → place < length line → spanned k place 1 ≡ t → IsToken line t
-sign_spans line k place t s lt e = subst (IsToken line) e (spans line k place 1 (omega arith) (omega (arith, length-drop place line)) (free k s))
-  where
-    free : (k : TokenKind) → IsSign k → IsText k (take 1 (drop place line))
-    free kind.Name s = tt
-    free kind.Number s = absurd s
-    free kind.Plus s = tt
-    free kind.Minus s = tt
-    free kind.Times s = tt
-    free kind.Power s = tt
+any_text : (k : TokenKind) (text : List ℕ) → IsSign k → IsText k text
+any_text kind.Name text s = tt
+any_text kind.Number text s = absurd s
+any_text kind.Plus text s = tt
+any_text kind.Minus text s = tt
+any_text kind.Times text s = tt
+any_text kind.Power text s = tt
+any_text kind.Open text s = tt
+any_text kind.Close text s = tt
+any_text kind.Equal text s = tt
 
-sign_is : (line : List ℕ) (place byte : ℕ) (t : Token) → place < length line → sign_at place byte ≡ Ok t → IsToken line t
-unfolding sign_at
-sign_is line place byte t lt h = plus (eqb byte 43) h
-  where
-    power : (b : Bool) → cond b (Ok (spanned kind.Power place 1)) (Err (Byte place)) ≡ Ok t → IsToken line t
-    power true h = sign_spans line kind.Power place t tt lt (cc)
-    power false h = absurd (cc)
+choice : (b : Bool) (k : TokenKind) (rest : Option TokenKind) → IsSign k → IfSome rest IsSign → IfSome (cond b (Some k) rest) IsSign
+choice true k rest s more = s
+choice false k rest s more = more
 
-    times : (b : Bool) → cond b (Ok (spanned kind.Times place 1)) (cond (eqb byte 94) (Ok (spanned kind.Power place 1)) (Err (Byte place))) ≡ Ok t
-        → IsToken line t
-    times true h = sign_spans line kind.Times place t tt lt (cc)
-    times false h = power (eqb byte 94) h
+bracket : (format : Format) (byte : ℕ) → IfSome (bracket_in format byte) IsSign
+bracket One byte = tt
+bracket Two byte = choice (eqb byte 40) kind.Open (cond (eqb byte 41) (Some kind.Close) (cond (eqb byte 61) (Some kind.Equal) None)) tt
+    (choice (eqb byte 41) kind.Close (cond (eqb byte 61) (Some kind.Equal) None) tt (choice (eqb byte 61) kind.Equal None tt tt))
 
-    minus : (b : Bool) → cond b (Ok (spanned kind.Minus place 1))
-        (cond (eqb byte 42) (Ok (spanned kind.Times place 1)) (cond (eqb byte 94) (Ok (spanned kind.Power place 1)) (Err (Byte place)))) ≡ Ok t → IsToken line t
-    minus true h = sign_spans line kind.Minus place t tt lt (cc)
-    minus false h = times (eqb byte 42) h
+sign_of : (format : Format) (byte : ℕ) → IfSome (sign_in format byte) IsSign
+unfolding sign_in
+sign_of format byte =
+    let power = cond (eqb byte 94) (Some kind.Power) (bracket_in format byte) in
+    let times = cond (eqb byte 42) (Some kind.Times) power in
+    let minus = cond (eqb byte 45) (Some kind.Minus) times in
+    choice (eqb byte 43) kind.Plus minus tt (choice (eqb byte 45) kind.Minus times tt (choice (eqb byte 42) kind.Times power tt
+    (choice (eqb byte 94) kind.Power (bracket_in format byte) tt (bracket format byte))))
 
-    plus : (b : Bool) → cond b (Ok (spanned kind.Plus place 1))
-        (cond (eqb byte 45) (Ok (spanned kind.Minus place 1))
-        (cond (eqb byte 42) (Ok (spanned kind.Times place 1)) (cond (eqb byte 94) (Ok (spanned kind.Power place 1)) (Err (Byte place))))) ≡ Ok t
-        → IsToken line t
-    plus true h = sign_spans line kind.Plus place t tt lt (cc)
-    plus false h = minus (eqb byte 45) h
+sign_is : (line : List ℕ) (place : ℕ) (sign : Option TokenKind) (t : Token) → place < length line → IfSome sign IsSign → sign_at place sign ≡ Ok t
+    → IsToken line t
+sign_is line place (Some k) t lt s h =
+    subst (IsToken line) (cc) (spans line k place 1 (omega arith) (omega (arith, length-drop place line)) (any_text k (take 1 (drop place line)) s))
+sign_is line place None t lt s h = absurd (cc)
 
-token_is : (line : List ℕ) (place byte : ℕ) (bytes : List ℕ) (t : Token) → byte ∷ bytes ≡ drop place line → place < length line
-    → token_at place (byte ∷ bytes) ≡ Ok t → IsToken line t
+token_is : (format : Format) (line : List ℕ) (place byte : ℕ) (bytes : List ℕ) (t : Token) → byte ∷ bytes ≡ drop place line → place < length line
+    → token_at format place (byte ∷ bytes) ≡ Ok t → IsToken line t
 unfolding token_at
-token_is line place byte bytes t e lt h = letter (is_ascii_alphabetic byte) h
+token_is format line place byte bytes t e lt h = letter (is_ascii_alphabetic byte) h
   where
-    digit : (b : Bool) → cond b (number_at place (byte ∷ bytes)) (sign_at place byte) ≡ Ok t → IsToken line t
+    digit : (b : Bool) → cond b (number_at place (byte ∷ bytes)) (sign_at place (sign_in format byte)) ≡ Ok t → IsToken line t
     digit true h = number_is line place t (omega arith) (sym (ap (number_at place) e) ∙ h)
-    digit false h = sign_is line place byte t lt h
+    digit false h = sign_is line place (sign_in format byte) t lt (sign_of format byte) h
 
-    letter : (b : Bool) → cond b (name_at place (byte ∷ bytes)) (cond (is_ascii_digit byte) (number_at place (byte ∷ bytes)) (sign_at place byte)) ≡ Ok t
+    letter : (b : Bool)
+        → cond b (name_at place (byte ∷ bytes)) (cond (is_ascii_digit byte) (number_at place (byte ∷ bytes)) (sign_at place (sign_in format byte))) ≡ Ok t
         → IsToken line t
     letter true h = name_is line place t (omega arith) (sym (ap (name_at place) e) ∙ h)
     letter false h = digit (is_ascii_digit byte) h
@@ -124,17 +128,18 @@ next_bytes line place byte bytes e =
 within : (line : List ℕ) (place byte : ℕ) (bytes : List ℕ) → byte ∷ bytes ≡ drop place line → place < length line
 within line place byte bytes e = omega (arith, length-drop place line, ap length e)
 
-tokens_from_are : (line : List ℕ) (skip place : ℕ) (bytes : List ℕ) (ts : List Token) → bytes ≡ drop place line → tokens_from skip place bytes ≡ Ok ts
-    → AreTokens line ts
+tokens_from_are : (format : Format) (line : List ℕ) (skip place : ℕ) (bytes : List ℕ) (ts : List Token) → bytes ≡ drop place line
+    → tokens_from format skip place bytes ≡ Ok ts → AreTokens line ts
 unfolding tokens_from
-tokens_from_are line skip place [] ts e h = let none : [] ≡ ts = ended skip h in subst (AreTokens line) none tt
+tokens_from_are format line skip place [] ts e h = let none : [] ≡ ts = ended skip h in subst (AreTokens line) none tt
   where
-    ended : (skip : ℕ) → tokens_from skip place [] ≡ Ok ts → [] ≡ ts
+    ended : (skip : ℕ) → tokens_from format skip place [] ≡ Ok ts → [] ≡ ts
     ended zero h = cc
     ended (suc skip) h = cc
-tokens_from_are line (suc skip) place (byte ∷ bytes) ts e h = tokens_from_are line skip (place + 1) bytes ts (next_bytes line place byte bytes e) h
-tokens_from_are line zero place (byte ∷ bytes) ts e h =
-    blank (λ (skip : ℕ) (us : List Token) (k : tokens_from skip (place + 1) bytes ≡ Ok us). tokens_from_are line skip (place + 1) bytes us
+tokens_from_are format line (suc skip) place (byte ∷ bytes) ts e h = tokens_from_are format line skip (place + 1) bytes ts
+    (next_bytes line place byte bytes e) h
+tokens_from_are format line zero place (byte ∷ bytes) ts e h =
+    blank (λ (skip : ℕ) (us : List Token) (k : tokens_from format skip (place + 1) bytes ≡ Ok us). tokens_from_are format line skip (place + 1) bytes us
     (next_bytes line place byte bytes e) k) (is_blank byte) h
   where
     first : (t : Token) (rest : Result (List Token) TokenFault) → IsToken line t → ((us : List Token) → rest ≡ Ok us → AreTokens line us)
@@ -142,18 +147,20 @@ tokens_from_are line zero place (byte ∷ bytes) ts e h =
     first t (Ok us) i all h = let e : t ∷ us ≡ ts = cc in subst (AreTokens line) e (i, all us refl)
     first t (Err f) i all h = absurd (cc)
 
-    token : ((skip : ℕ) (us : List Token) → tokens_from skip (place + 1) bytes ≡ Ok us → AreTokens line us) → (r : Result Token TokenFault)
-        → token_at place (byte ∷ bytes) ≡ r → and_then r (λ t. with_first t (tokens_from (t.end - (place + 1)) (place + 1) bytes)) ≡ Ok ts → AreTokens line ts
-    token all (Ok t) r h = first t (tokens_from (t.end - (place + 1)) (place + 1) bytes) (token_is line place byte bytes t e (within line place byte bytes e) r)
-        (all (t.end - (place + 1))) h
+    token : ((skip : ℕ) (us : List Token) → tokens_from format skip (place + 1) bytes ≡ Ok us → AreTokens line us) → (r : Result Token TokenFault)
+        → token_at format place (byte ∷ bytes) ≡ r → and_then r (λ t. with_first t (tokens_from format (t.end - (place + 1)) (place + 1) bytes)) ≡ Ok ts
+        → AreTokens line ts
+    token all (Ok t) r h = first t (tokens_from format (t.end - (place + 1)) (place + 1) bytes)
+        (token_is format line place byte bytes t e (within line place byte bytes e) r) (all (t.end - (place + 1))) h
     token all (Err f) r h = absurd (cc)
 
-    blank : ((skip : ℕ) (us : List Token) → tokens_from skip (place + 1) bytes ≡ Ok us → AreTokens line us) → (b : Bool)
-        → cond b (tokens_from 0 (place + 1) bytes)
-        (and_then (token_at place (byte ∷ bytes)) (λ t. with_first t (tokens_from (t.end - (place + 1)) (place + 1) bytes))) ≡ Ok ts → AreTokens line ts
+    blank : ((skip : ℕ) (us : List Token) → tokens_from format skip (place + 1) bytes ≡ Ok us → AreTokens line us) → (b : Bool)
+        → cond b (tokens_from format 0 (place + 1) bytes)
+        (and_then (token_at format place (byte ∷ bytes)) (λ t. with_first t (tokens_from format (t.end - (place + 1)) (place + 1) bytes))) ≡ Ok ts
+        → AreTokens line ts
     blank all true h = all 0 ts h
-    blank all false h = token all (token_at place (byte ∷ bytes)) refl h
+    blank all false h = token all (token_at format place (byte ∷ bytes)) refl h
 
 -- The tokens that are read are slices of the line.
-pub tokens_are : (line : List ℕ) (ts : List Token) → tokens_of line ≡ Ok ts → AreTokens line ts
-tokens_are line ts h = tokens_from_are line 0 0 line ts refl h
+pub tokens_are : (format : Format) (line : List ℕ) (ts : List Token) → tokens_of format line ≡ Ok ts → AreTokens line ts
+tokens_are format line ts h = tokens_from_are format line 0 0 line ts refl h

@@ -15,6 +15,9 @@ pub data Lexeme : Type 0 where
   minus : Lexeme
   times : Lexeme
   power : Lexeme
+  opening : Lexeme
+  closing : Lexeme
+  equals : Lexeme
 
 abbrev pub text_of : List ℕ → Token → List ℕ
 text_of line token = slice_range line token.start token.end
@@ -26,6 +29,9 @@ said_by kind.Plus text = plus
 said_by kind.Minus text = minus
 said_by kind.Times text = times
 said_by kind.Power text = power
+said_by kind.Open text = opening
+said_by kind.Close text = closing
+said_by kind.Equal text = equals
 
 abbrev pub said : List ℕ → Token → Lexeme
 said line token = said_by token.kind (text_of line token)
@@ -56,6 +62,9 @@ seen read.Plus = plus
 seen read.Minus = minus
 seen read.Times = times
 seen read.Power = power
+seen read.Open = opening
+seen read.Close = closing
+seen read.Equal = equals
 
 -- the first lexeme and the others, if there are any
 abbrev pub IsSplit : List Lexeme → Option (Read × List Lexeme) → Type 0

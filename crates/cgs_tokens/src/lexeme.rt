@@ -15,6 +15,9 @@ pub enum Lexeme<'a> {
     Minus,
     Times,
     Power,
+    Open,
+    Close,
+    Equal,
 }
 
 /// What a token of the line says.
@@ -30,6 +33,9 @@ pub(crate) fn said<'a>(line: &'a [u8], token: Token) -> Lexeme<'a>
         TokenKind::Minus => Lexeme::Minus,
         TokenKind::Times => Lexeme::Times,
         TokenKind::Power => Lexeme::Power,
+        TokenKind::Open => Lexeme::Open,
+        TokenKind::Close => Lexeme::Close,
+        TokenKind::Equal => Lexeme::Equal,
     }
 }
 

@@ -13,7 +13,7 @@ mod token;
 pub use lexeme::Lexeme;
 pub use line::Line;
 pub use scan::{TokenList, tokens};
-pub use token::{Token, TokenFault, TokenKind};
+pub use token::{Format, Token, TokenFault, TokenKind};
 
 #[cfg(test)]
 mod tests;

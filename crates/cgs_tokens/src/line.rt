@@ -5,7 +5,7 @@ ghost use Rattle.cgs_tokens.specs.Tokens.{tokens_of};
 ghost use Rattle.cgs_tokens.specs.Lexemes.{lexemes_of, IsSplit};
 
 use crate::lexeme::{Lexeme, said};
-use crate::token::Token;
+use crate::token::{Format, Token};
 use std::marker::Model;
 
 /// What is left of a line: its bytes with the tokens that were not read yet. Contracts see it as what these say.
@@ -27,9 +27,9 @@ impl<'a> Model for Line<'a> {
 }
 
 impl<'a> Line<'a> {
-    /// The line with these bytes, of which these are the tokens.
-    pub fn new(bytes: &'a [u8], tokens: &'a [Token]) -> Line<'a>
-        requires { tokens_of bytes.now ≡ Ok tokens.now }
+    /// The line with these bytes, of which these are the tokens in that format.
+    pub fn new(bytes: &'a [u8], tokens: &'a [Token], format: Format) -> Line<'a>
+        requires { tokens_of format bytes.now ≡ Ok tokens.now }
         ensures { result ≡ lexemes_of bytes.now tokens.now }
     {
         Line { bytes, tokens }

@@ -4,9 +4,9 @@ ghost use Rattle.std.specs.Prelude.{◌≡◌, ◌<◌, ◌≤◌, ◌+◌, ◌^
 ghost use Rattle.std.specs.List.{prefix_len};
 ghost use Rattle.std.specs.Char.{is_ascii_digit};
 ghost use Rattle.cgs_list.specs.Results.{Answers};
-ghost use Rattle.cgs_tokens.specs.Tokens.{tokens_of, offence_of, token_at, spanned, is_blank, is_word};
+ghost use Rattle.cgs_tokens.specs.Tokens.{tokens_of, offence_of, token_at, sign_in, spanned, is_blank, is_word};
 
-use crate::token::{Token, TokenFault, TokenKind};
+use crate::token::{Format, Token, TokenFault, TokenKind};
 use cgs_list::ItemList;
 use std::alloc::Global;
 
@@ -17,11 +17,11 @@ const LONGEST_NUMBER: usize = 18;
 /// The tokens of a line, in order; no two of them share a byte.
 pub type TokenList = ItemList<Token>;
 
-/// The tokens of a line that stands without its line end. Blanks and tabs end a token and belong to none. It errs at the
-/// first offence, or where memory is short.
-pub fn tokens(alloc: Global, line: &[u8]) -> Result<TokenList, TokenFault>
+/// The tokens that a line has in a format; the line stands without its line end. Blanks and tabs end a token and belong to
+/// none. It errs at the first offence, or where memory is short.
+pub fn tokens(alloc: Global, line: &[u8], format: Format) -> Result<TokenList, TokenFault>
     requires { length line.now ≤ 67108864 }
-    ensures { Answers (λ list. list) offence_of result (tokens_of line.now) }
+    ensures { Answers (λ list. list) offence_of result (tokens_of format line.now) }
 {
     let mut list = ItemList::new(alloc);
     let mut at: u32 = 0;
@@ -29,7 +29,7 @@ pub fn tokens(alloc: Global, line: &[u8]) -> Result<TokenList, TokenFault>
         if is_blank(line[at as usize]) {
             at += 1;
         } else {
-            let token = token_at(line, at)?;
+            let token = token_at(line, at, format)?;
             list.push(token)?;
             at = token.end;
         }
@@ -50,21 +50,21 @@ fn is_word(byte: u8) -> bool
 }
 
 // The token that begins at a place of the line.
-#[tactic(auto, unfolding(crate::specs::Tokens::token_at, crate::specs::Tokens::name_at, crate::specs::Tokens::number_at, crate::specs::Tokens::sign_at))]
-fn token_at(line: &[u8], at: u32) -> Result<Token, TokenFault>
+#[tactic(auto, unfolding(crate::specs::Tokens::token_at, crate::specs::Tokens::name_at, crate::specs::Tokens::number_at))]
+fn token_at(line: &[u8], at: u32, format: Format) -> Result<Token, TokenFault>
     requires place { at < length line.now }
     requires short { length line.now ≤ 67108864 }
-    ensures token { result ≡ token_at at (drop at line.now) }
+    ensures token { result ≡ token_at format at (drop at line.now) }
     ensures within { IfOk result (λ token. (at < token.end) × (token.end ≤ length line.now)) }
 {
-    token_of(&line[at as usize..], at)
+    token_of(&line[at as usize..], at, format)
 }
 
 // The token that these bytes, the line from that place on, begin with.
-#[tactic(auto, unfolding(crate::specs::Tokens::token_at, crate::specs::Tokens::name_at, crate::specs::Tokens::number_at, crate::specs::Tokens::sign_at))]
-fn token_of(bytes: &[u8], at: u32) -> Result<Token, TokenFault>
+#[tactic(auto, unfolding(crate::specs::Tokens::token_at, crate::specs::Tokens::name_at, crate::specs::Tokens::number_at))]
+fn token_of(bytes: &[u8], at: u32, format: Format) -> Result<Token, TokenFault>
     requires { at + length bytes.now ≤ 67108864 }
-    ensures token { result ≡ token_at at bytes.now }
+    ensures token { result ≡ token_at format at bytes.now }
     ensures within { IfOk result (λ token. (at < token.end) × (token.end ≤ at + length bytes.now)) }
 {
     let [byte, ..] = bytes else {
@@ -84,12 +84,27 @@ fn token_of(bytes: &[u8], at: u32) -> Result<Token, TokenFault>
         }
         return Ok(token(TokenKind::Number, at, len as u32));
     }
-    match *byte {
-        b'+' => Ok(token(TokenKind::Plus, at, 1)),
-        b'-' => Ok(token(TokenKind::Minus, at, 1)),
-        b'*' => Ok(token(TokenKind::Times, at, 1)),
-        b'^' => Ok(token(TokenKind::Power, at, 1)),
-        _ => Err(TokenFault::Byte(at)),
+    match sign(*byte, format) {
+        Some(kind) => Ok(token(kind, at, 1)),
+        None => Err(TokenFault::Byte(at)),
+    }
+}
+
+// The sign that a byte is in a format.
+#[tactic(auto, unfolding(crate::specs::Tokens::sign_in))]
+fn sign(byte: u8, format: Format) -> Option<TokenKind>
+    ensures { result ≡ sign_in format byte }
+{
+    match byte {
+        b'+' => Some(TokenKind::Plus),
+        b'-' => Some(TokenKind::Minus),
+        b'*' => Some(TokenKind::Times),
+        b'^' => Some(TokenKind::Power),
+        _ if format == Format::One => None,
+        b'(' => Some(TokenKind::Open),
+        b')' => Some(TokenKind::Close),
+        b'=' => Some(TokenKind::Equal),
+        _ => None,
     }
 }
 

@@ -1,7 +1,7 @@
 //! Worked lines, and the call met with ample memory.
 
-use crate::TokenKind::{Minus, Name, Number, Plus, Power, Times};
-use crate::{Token, TokenFault, TokenKind, tokens};
+use crate::TokenKind::{Close, Equal, Minus, Name, Number, Open, Plus, Power, Times};
+use crate::{Format, Token, TokenFault, TokenKind, tokens};
 use std::test::Fail;
 
 type Spans<'a> = &'a [(TokenKind, u32, u32)];
@@ -47,9 +47,27 @@ fn spans(rt: HostRuntime) -> Result<(), Fail> {
         (" \t", &[]),
     ];
     for (line, want) in rows {
-        let list = tokens(rt.alloc(), line.as_bytes()).map_err(|_| "no tokens")?;
+        let list = tokens(rt.alloc(), line.as_bytes(), Format::One).map_err(|_| "no tokens")?;
         assert!(rt; are_spans(list.as_slice(), want), "at {line}");
     }
+    Ok(())
+}
+
+#[test]
+fn brackets(rt: HostRuntime) -> Result<(), Fail> {
+    let line = "let s=(x)";
+    let want: Spans<'_> = &[
+        (Name, 0, 3),
+        (Name, 4, 5),
+        (Equal, 5, 6),
+        (Open, 6, 7),
+        (Name, 7, 8),
+        (Close, 8, 9),
+    ];
+    let list = tokens(rt.alloc(), line.as_bytes(), Format::Two).map_err(|_| "no tokens")?;
+    assert!(rt; are_spans(list.as_slice(), want), "in the second format");
+    let found = tokens(rt.alloc(), line.as_bytes(), Format::One).map(|_| ());
+    assert_eq!(rt; found, Err(TokenFault::Byte(5)), "in the first format");
     Ok(())
 }
 
@@ -65,10 +83,10 @@ fn offences(rt: HostRuntime) {
         ),
     ];
     for (line, want) in rows {
-        let found = tokens(rt.alloc(), line.as_bytes()).map(|_| ());
+        let found = tokens(rt.alloc(), line.as_bytes(), Format::One).map(|_| ());
         assert_eq!(rt; found, Err(want), "at {line}");
     }
     // the longest number and the longest name
     let longest = "999999999999999999 abcdefghijklmnopqrstuvwxyz012345";
-    assert!(rt; tokens(rt.alloc(), longest.as_bytes()).is_ok());
+    assert!(rt; tokens(rt.alloc(), longest.as_bytes(), Format::One).is_ok());
 }

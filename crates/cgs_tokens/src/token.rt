@@ -19,6 +19,19 @@ pub enum TokenKind {
     Times,
     /// `^`
     Power,
+    /// `(`
+    Open,
+    /// `)`
+    Close,
+    /// `=`
+    Equal,
+}
+
+/// Which signs a line may have: `(`, `)` and `=` are tokens of the second format alone.
+#[derive(Clone, Copy, Debug, Drop, PartialEq, Eq)]
+pub enum Format {
+    One,
+    Two,
 }
 
 /// A token by its place: its text is the slice of the line from `start` up to `end`.
